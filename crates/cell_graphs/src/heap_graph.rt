@@ -1,9 +1,9 @@
 // The graph of a heap that is in memory.
-ghost use Rattle.std.specs.Prelude.{◌≡◌, ℕ, ◌<◌, length, Some, slice_get};
+ghost use Rattle.std.specs.Prelude.{◌≡◌, ℕ, ◌<◌, length, Some};
 ghost use Rattle.term_forms.specs.Forms.{SubBin};
 ghost use Rattle.heap_cells.specs.HeapMap.{form_at};
 ghost use Rattle.heap_cells.specs.Targets.{number, slot_target};
-ghost use Rattle.cell_graphs.specs.Graphs.{LeadsWithin, bin_at, cell_in, graph_of, places_at, places_of};
+ghost use Rattle.cell_graphs.specs.Graphs.{bin_at, cell_in, graph_of};
 
 use crate::cell_graph::CellGraph;
 use heap_cells::{CellIx, Heap, Kind, Seat, Slot};

@@ -8,7 +8,7 @@ use Rattle.std.specs.Option.{option_map, option_or}
 use Rattle.std.specs.Global.{Vec}
 use Rattle.std.proofs.lemmas.List.Sums.{sum_by-append}
 use Rattle.std.proofs.lemmas.Bool.{lt-ltb, le-ltb}
-use Rattle.dump_sections.specs.Bodies.{body_length, body_in, section_in}
+use Rattle.dump_sections.specs.Bodies.{body_length, body_in, section_in, body_start}
 use Rattle.dump_sections.specs.Index.{Contents, sections_in, index_of}
 use Rattle.dump_sections.specs.Lookups.{first_named}
 use Rattle.dump_sections.specs.Sections.{Section, sections}
@@ -38,7 +38,7 @@ use Rattle.command_words.specs.Command.{cells, ext}
 use Rattle.heap_cells.specs.DumpHeaps.{heap_map, heap_weight}
 use Rattle.dump_command.specs.Meaning.{Meaning, Part, Rooted, meaning, never, no_body, no_process, on_heap, part_in}
 use Rattle.dump_command.specs.Report.{large_refusal, too_large}
-use Rattle.dump_command.specs.Terms.{base_of, binary_count, dense_cause, external_at, no_external, root_terms, too_dense}
+use Rattle.dump_command.specs.Terms.{binary_count, dense_cause, external_at, no_external, root_terms, too_dense}
 use Rattle.dump_command.specs.Inner.Stops.{stop_of_body, stop_of_heap, stop_of_large, stop_of_previews, Judges}
 use Rattle.dump_command.specs.Inner.Reading.{heap_listed, HoldsHeap, IsHeapless, IsIndexed, IsHalted, HasRead, ReadsFor, StopsFor, Takes}
 use Rattle.dump_command.specs.declared.stop.Stop.{Stop}
@@ -297,11 +297,11 @@ rooted walk part = record { walk = walk; part = part }
 
 -- so are the body with the roots of one kind, and what a walker goes over
 pub roots-told : (kind : RootKind) (pid bytes : List ℕ) (index : Contents) (walk : Walk) (body : Body) → index ≡ index_of bytes → walk ≡ walk_of pid bytes
-    → body.base ≡ base_of (root_section kind pid (sections_in index)) → body.bytes.items ≡ body_in bytes (root_section kind pid (sections_in index))
+    → body.base ≡ body_start (root_section kind pid (sections_in index)) → body.bytes.items ≡ body_in bytes (root_section kind pid (sections_in index))
     → rooted walk (shown_body body) ≡ rooted (walk_of pid bytes) (part_in (root_section kind pid) bytes)
 roots-told kind pid bytes index walk body is walked base held =
     rw (walked, base, held)
-    (ap (λ i. rooted (walk_of pid bytes) (record { base = base_of (root_section kind pid (sections_in i)); bytes = body_in bytes (root_section kind pid (sections_in i)) })) is)
+    (ap (λ i. rooted (walk_of pid bytes) (record { base = body_start (root_section kind pid (sections_in i)); bytes = body_in bytes (root_section kind pid (sections_in i)) })) is)
 
 -- three calls add what three bodies hold, each behind what came before
 pub added-three : {R B X : Type 0} (Is : R → List X → Type 0) (f g h : B → List X) (a b c d : R) (first second third x y z : B)

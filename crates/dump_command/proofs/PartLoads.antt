@@ -7,7 +7,7 @@ use Rattle.std.proofs.lemmas.List.Sums.{sum_by-append}
 use Rattle.dump_io.specs.Dumps.{DeviceState, ReadsAtMost}
 use Rattle.dump_io.specs.Laws.Reads.{ReadsAtMost-then}
 use Rattle.dump_io.specs.Limits.{Numbers}
-use Rattle.dump_sections.specs.Bodies.{body_in, body_length, body_size}
+use Rattle.dump_sections.specs.Bodies.{body_in, body_length, body_size, body_start}
 use Rattle.dump_sections.specs.Index.{Contents, index_of, sections_in}
 use Rattle.dump_sections.specs.Loading.{bodies_length}
 use Rattle.dump_sections.specs.Sections.{Section}
@@ -40,7 +40,7 @@ use Rattle.term_unfold.specs.Parts.{answer_in, has_cell}
 use Rattle.term_unfold.specs.Walks.{Walk}
 use Rattle.dump_command.specs.Meaning.{Meaning, no_body, no_process, of_part, part_in}
 use Rattle.dump_command.specs.Report.{refusal_listed}
-use Rattle.dump_command.specs.Terms.{address_cause, base_of, binary_count}
+use Rattle.dump_command.specs.Terms.{address_cause, binary_count}
 use Rattle.dump_command.specs.Inner.Loads.{lacks, unknown_cause, walk_in, AreAnswered, GivesPart, ReadsPart}
 use Rattle.dump_command.specs.declared.commands.peek.HeapPart.{HeapPart}
 use Rattle.dump_command.specs.Inner.Reading.{HasRead, IsHalted, IsIndexed, ReadsFor, StopsFor, Takes}
@@ -260,7 +260,7 @@ module _ (one other : Element → List ℕ) where
 
 -- the roots that were read, with answers that are those of the dump, have the report of the dump
 pub peeked-told : (kind : RootKind) (pid bytes : List ℕ) (first most nodes : ℕ) (marked : Bool) (index : Contents) (walk : Walk) (base : ℕ) (roots : SomeRoots) → index ≡ index_of bytes
-    → base ≡ base_of (root_section kind pid (sections_in index)) → roots ≡ shown_roots kind first most (body_in bytes (root_section kind pid (sections_in index)))
+    → base ≡ body_start (root_section kind pid (sections_in index)) → roots ≡ shown_roots kind first most (body_in bytes (root_section kind pid (sections_in index)))
     → Alike (answer_over walk nodes marked) (answer_over (walk_of pid bytes) nodes marked) (root_elements roots.shown)
     → shown_report (answer_over walk nodes marked) base roots.shown roots.count
     ≡ some_roots_report (answer_over (walk_of pid bytes) nodes marked) (part_in (root_section kind pid) bytes).base first most (roots_in kind (part_in (root_section kind pid) bytes).bytes)
@@ -268,5 +268,5 @@ peeked-told kind pid bytes first most nodes marked index walk base roots is base
     let say = answer_over (walk_of pid bytes) nodes marked in
     ap (λ lines. lines ++ total_line (codes "roots") roots.count) (lines-alike (answer_over walk nodes marked) say base roots.shown alike)
     ∙ ap (λ b. shown_report say b roots.shown roots.count) based
-    ∙ ap (λ r. shown_report say (base_of (root_section kind pid (sections_in index))) r.shown r.count) are
-    ∙ ap (λ i. some_roots_report say (base_of (root_section kind pid (sections_in i))) first most (roots_in kind (body_in bytes (root_section kind pid (sections_in i))))) is
+    ∙ ap (λ r. shown_report say (body_start (root_section kind pid (sections_in index))) r.shown r.count) are
+    ∙ ap (λ i. some_roots_report say (body_start (root_section kind pid (sections_in i))) first most (roots_in kind (body_in bytes (root_section kind pid (sections_in i))))) is

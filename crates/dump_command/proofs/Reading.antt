@@ -10,7 +10,7 @@ use Rattle.dump_io.specs.Dumps.{DeviceState, told, ReadsAtMost, DeviceFailed}
 use Rattle.dump_io.specs.Laws.Options.{is_some-map}
 use Rattle.dump_io.specs.Laws.Reads.{ReadsAtMost-none}
 use Rattle.dump_io.specs.Limits.{Numbers}
-use Rattle.dump_sections.specs.Bodies.{body_in, IsBodyIn, section_in}
+use Rattle.dump_sections.specs.Bodies.{body_in, IsBodyIn, section_in, body_start}
 use Rattle.dump_sections.specs.Index.{Contents, index_of, sections_in, IsBuiltOver, IsIndexOf}
 use Rattle.dump_sections.specs.Sections.{Section, sections}
 use Rattle.dump_sections.specs.declared.bodies.BodyFault.{BodyFault}
@@ -28,7 +28,7 @@ use Rattle.dump_command.specs.Inner.Reading.{IsIndexed, HasRead, IsHalted, Reads
 use Rattle.dump_command.specs.Inner.Stops.{or_stop, stop_of_body, Judges}
 use Rattle.dump_command.specs.declared.stop.Stop.{Stop}
 use Rattle.dump_command.specs.declared.stop.Stop.TheVariants.{Refused, NotRead, NotWritten, NoMemory}
-use Rattle.dump_command.specs.Terms.{base_of}
+
 use Rattle.dump_command.specs.Inner.Loads.{IsBodyFound, seen_overview, shown_body}
 use Rattle.dump_command.specs.declared.commands.subjects.Body.{Body}
 
@@ -186,7 +186,7 @@ module _ (means : Meaning) (limits : Numbers) (index : Contents) (of : IsOfBodie
     (found : Option Section) (is : means.bodies (sections_in index) ≡ option_to_list found) where
   pub ReadsFor-found : ((bytes : List ℕ) → means.held limits bytes ≡ None) → (seen : Body → means.What) (loaded : Result Body BodyFault) → LoadsBodies state (option_to_list found) limits.section b c loaded
       → IfOk loaded (IsBodyFound (state b).now found)
-      → ((body : Body) (bytes : List ℕ) → IsIndexed bytes limits index (state b).now → body.base ≡ base_of found → body.bytes.items ≡ body_in bytes found → seen body ≡ means.what bytes)
+      → ((body : Body) (bytes : List ℕ) → IsIndexed bytes limits index (state b).now → body.base ≡ body_start found → body.bytes.items ≡ body_in bytes found → seen body ≡ means.what bytes)
       → ReadsFor means limits index (state b) (state c) seen (or_stop loaded)
   ReadsFor-found held seen loaded loads read right =
       ReadsFor-bodies means limits index of state b c held seen loaded (subst (λ ss. LoadsBodies state ss limits.section b c loaded) (sym is) loads)
@@ -202,7 +202,7 @@ ReadsFor-part absent pick show limits index state b c found loaded there here lo
     (λ body bytes all base items. rw (base, items) (ap (λ f. part_of f bytes) here ∙ ap (λ i. part_of (pick (sections_in i)) bytes) all.is))
   where
     part_of : Option Section → List ℕ → Part
-    part_of f bytes = record { base = base_of f; bytes = body_in bytes f }
+    part_of f bytes = record { base = body_start f; bytes = body_in bytes f }
 
 -- ---- what the exits of functions leave, by the clauses of the last call
 

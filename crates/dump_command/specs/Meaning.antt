@@ -3,7 +3,7 @@
 use Rattle.std.specs.Prelude.{ℕ, ◌+◌, ◌*◌, Bool, List, [], ◌∷◌, ◌++◌, length, Option, None, Some, codes, is_some, unwrap_or, if◌then◌else◌}
 use Rattle.std.specs.Option.{option_map_or, option_or, option_to_list}
 use Rattle.dump_io.specs.Limits.{Numbers}
-use Rattle.dump_sections.specs.Bodies.{at_place, body_in, body_of}
+use Rattle.dump_sections.specs.Bodies.{at_place, body_in, body_of, body_start}
 use Rattle.dump_sections.specs.Index.{Contents, index_of, sections_in}
 use Rattle.dump_sections.specs.Loading.{bodies_length}
 use Rattle.dump_sections.specs.Lookups.{first_named, first_tagged}
@@ -53,7 +53,7 @@ use Rattle.json_report.specs.Trees.{audit_tree, json_text}
 use Rattle.dump_redact.specs.Redacted.{redacted}
 use Rattle.dump_redact.specs.Refusals.{heap_sections}
 use Rattle.command_words.specs.Command.{Ask, index, info, procs, proc, memory, field, table, roots, term, peek_term, peek_roots, ext, reach, shapes, weigh, weigh_cell, cells, binary, binaries, holders, triage, stacks, links, redact, audit, audit_json}
-use Rattle.dump_command.specs.Terms.{bad_binary, base_of, binary_bytes, binary_cause, binary_count, external_at, no_address, no_external, root_terms, too_dense}
+use Rattle.dump_command.specs.Terms.{bad_binary, binary_bytes, binary_cause, binary_count, external_at, no_address, no_external, root_terms, too_dense}
 use Rattle.dump_command.specs.Triage.{Told, triage_over}
 
 -- ---- sections of a dump
@@ -88,7 +88,7 @@ pub record Part : Type 0 where
 
 -- that of the section that is found among those of a dump; a missing one counts as empty
 abbrev pub part_in : (List Section → Option Section) → List ℕ → Part
-part_in find bytes = let found = find (sections bytes) in record { base = base_of found; bytes = body_in bytes found }
+part_in find bytes = let found = find (sections bytes) in record { base = body_start found; bytes = body_in bytes found }
 
 -- the report on the fields of a section
 abbrev pub fields_of : Part → List ℕ

@@ -1,6 +1,6 @@
 -- What the commands on the terms of a process, and on a binary, report on the bytes of an accepted dump.
 use Rattle.std.specs.Prelude.{ℕ, Bool, List, [], ◌++◌, length, Option, None, Some, is_some, nat_lt, unwrap_or, if◌then◌else◌}
-use Rattle.std.specs.Option.{option_and_then, option_map, option_map_or, option_or}
+use Rattle.std.specs.Option.{option_and_then, option_map, option_or}
 use Rattle.dump_sections.specs.Index.{index_of}
 use Rattle.dump_sections.specs.Sections.{Section, sections}
 use Rattle.binary_payloads.specs.declared.enc.Enc.{Enc}
@@ -22,10 +22,6 @@ use Rattle.term_text.specs.Reach.{root_elements}
 use Rattle.term_unfold.specs.Parts.{has_cell}
 use Rattle.root_views.specs.Sections.{root_section}
 use Rattle.root_views.specs.Kinds.{roots_in}
-
--- where a body begins in the file
-abbrev pub base_of : Option Section → ℕ
-base_of found = option_map_or (λ s. s.body) found 0
 
 -- the heap and the literals have more lines and elements than the limit
 abbrev pub dense_cause : ℕ → ℕ → Option Refusal

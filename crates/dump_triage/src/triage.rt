@@ -3,7 +3,7 @@ ghost use Rattle.std.specs.Prelude.{◌≡◌, ◌-◌, ◌^◌, None, All, IfOk
 ghost use Rattle.process_table.specs.Processes.{IsProcessIn};
 ghost use Rattle.table_sections.specs.Tables.{IsTableOver};
 ghost use Rattle.table_sections.specs.declared.kinds.TableKind.TheVariants.{Ets};
-ghost use Rattle.dump_audit.specs.Findings.{audit_of, findings, findings_in};
+ghost use Rattle.dump_audit.specs.Findings.{findings, findings_in};
 ghost use Rattle.dump_triage.specs.FindingCounts.{counts_of};
 ghost use Rattle.dump_triage.specs.Triage.{FitsTriage, triage_of};
 

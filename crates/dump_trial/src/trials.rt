@@ -2,7 +2,7 @@
 ghost use Rattle.std.specs.Prelude.{◌≡◌, ◌≤◌, length, All, None, IfOk};
 ghost use Rattle.dump_sections.specs.Index.{IsIndexOf};
 ghost use Rattle.process_table.specs.Processes.{IsProcessIn, process_table};
-ghost use Rattle.dump_audit.specs.Findings.{audit_of, findings, findings_in};
+ghost use Rattle.dump_audit.specs.Findings.{findings, findings_in};
 ghost use Rattle.dump_trial.specs.Trial.{queue_limit, summary_of, tally_of, trial_of};
 
 use crate::counting::count_processes;

@@ -1,5 +1,5 @@
 // What each of a heap's parts alone holds.
-ghost use Rattle.std.specs.Prelude.{◌≡◌, ◌+◌, ◌<◌, ◌^◌, [], length, All, IfOk};
+ghost use Rattle.std.specs.Prelude.{◌+◌, ◌<◌, ◌^◌, [], length, All, IfOk};
 ghost use Rattle.cell_graphs.specs.Graphs.{LeadsWithin};
 ghost use Rattle.heap_weights.specs.Holders.{holder_at};
 ghost use Rattle.heap_weights.specs.Shares.{AreShares};

@@ -1,6 +1,5 @@
 // The walk over a part of a heap that looks for a cell that only the whole heap has.
-ghost use Rattle.std.specs.Prelude.{◌≡◌, ℕ, Bool, ◌+◌, ◌<◌, [], length, IfOk};
-ghost use Rattle.std.specs.Option.{option_and_then};
+ghost use Rattle.std.specs.Prelude.{◌≡◌, ℕ, Bool, ◌<◌, [], length, IfOk};
 ghost use Rattle.term_forms.specs.Seen.{element};
 ghost use Rattle.heap_cells.specs.HeapMap.{HeapMap, form_at};
 ghost use Rattle.heap_cells.specs.Targets.{number};

@@ -24,7 +24,7 @@ use Rattle.dump_sections.specs.declared.bodies.BodyFault.{BodyFault}
 use Rattle.dump_sections.specs.declared.bodies.BodyFault.TheVariants.{SectionTooLarge}
 use Rattle.dump_sections.specs.declared.bodies.LargeSection.{LargeSection}
 use Rattle.term_forms.specs.Elements.{Element}
-use Rattle.dump_sections.specs.Bodies.{body_in, section_in, IsBodyIn}
+use Rattle.dump_sections.specs.Bodies.{body_in, section_in, IsBodyIn, body_start, IsPlaceIn}
 use Rattle.root_views.specs.declared.kinds.RootKind.TheVariants.{Stack, Dict, Mail}
 use Rattle.term_text.specs.Reach.{root_elements}
 use Rattle.term_text.specs.Roots.{answer_over}
@@ -41,7 +41,7 @@ use Rattle.dump_command.specs.declared.commands.reach.RootPlaces.{RootPlaces}
 use Rattle.dump_command.specs.declared.commands.reach.RootBodies.{RootBodies}
 use Rattle.dump_command.specs.declared.commands.reach.Loaded.{Loaded as ReachLoaded}
 use Rattle.dump_command.specs.Triage.{Told}
-use Rattle.dump_command.specs.Terms.{address_cause, base_of, binary_count}
+use Rattle.dump_command.specs.Terms.{address_cause, binary_count}
 use Rattle.dump_command.specs.Inner.Reading.{IsIndexed, StopsFor}
 use Rattle.dump_command.specs.declared.stop.Stop.{Stop}
 use Rattle.report_text.specs.declared.refusals.Refusal.{Refusal}
@@ -65,7 +65,7 @@ HasPlaces body = body.base + length body.bytes.items < 2 ^ 64
 -- what was read of a section that may be missing: its body, and the body's offset in the file
 pub record IsBodyFound (now : Now) (found : Option Section) (body : Body) : Type 0 where
   pub held : IsBodyIn now found body.bytes.items
-  pub base : body.base ≡ base_of found
+  pub base : body.base ≡ body_start found
   pub places : HasPlaces body
 
 -- ---- from what the report of `info` is written
@@ -158,7 +158,7 @@ pub record GivesPart (pid : List ℕ) (addr : Option ℕ) (terms : List Element)
 
 -- the roots that are shown of a section that may be missing, and the offset of its body
 pub record AreRootsFound (now : Now) (found : Option Section) (kind : RootKind) (first most : ℕ) (roots : SomeRoots × ℕ) : Type 0 where
-  pub base : roots.1 ≡ base_of found
+  pub base : roots.1 ≡ body_start found
   pub shown : IfTold now (λ dump. roots.0 ≡ shown_roots kind first most (body_in dump found))
   pub places : All (IsPlaced roots.1) roots.0.shown
 
@@ -180,15 +180,11 @@ pub record ArePlaces (pid : List ℕ) (index : Contents) (places : RootPlaces) :
   pub dict : section_in index places.dict ≡ root_section Dict pid (sections_in index)
   pub mail : section_in index places.mail ≡ root_section Mail pid (sections_in index)
 
--- the place of a section of the index, if there is one
-abbrev pub IsPlace : Contents → Option ℕ → Type 0
-IsPlace index place = IfSome place (λ i. i < length index.headers)
-
 -- the three places are those of sections
 pub record AreWithin (index : Contents) (places : RootPlaces) : Type 0 where
-  pub stack : IsPlace index places.stack
-  pub dict : IsPlace index places.dict
-  pub mail : IsPlace index places.mail
+  pub stack : IsPlaceIn index places.stack
+  pub dict : IsPlaceIn index places.dict
+  pub mail : IsPlaceIn index places.mail
 
 -- these are their bodies
 pub record HoldsRoots (index : Contents) (now : Now) (places : RootPlaces) (roots : RootBodies) : Type 0 where

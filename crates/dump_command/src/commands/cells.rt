@@ -1,6 +1,5 @@
 // `cells`: what is on the heap of a process.
 ghost use Rattle.command_words.specs.Command.{cells};
-ghost use Rattle.term_text.specs.Cells.{cells_report};
 
 use crate::commands::subjects::load_heap;
 use crate::open::Opened;

@@ -4,7 +4,6 @@ ghost use Rattle.stored_binaries.specs.Payloads.{bytes_in};
 ghost use Rattle.etf_terms.specs.Walks.{bad_place};
 ghost use Rattle.command_words.specs.Command.{ext};
 ghost use Rattle.dump_command.specs.Terms.{external_at, no_external};
-ghost use Rattle.term_text.specs.Roots.{ext_report};
 ghost use Rattle.dump_command.specs.Inner.Stops.{Judges};
 
 use crate::commands::subjects::{find_cell, load_heap};

@@ -1,6 +1,5 @@
 // `field`: one field of every process.
 ghost use Rattle.command_words.specs.Command.{field};
-ghost use Rattle.report_text.specs.Tables.{values_report};
 
 use crate::open::Opened;
 use crate::report::Report;

@@ -1,6 +1,5 @@
 // `links`: the links and monitors of all processes.
 ghost use Rattle.command_words.specs.Command.{links};
-ghost use Rattle.report_text.specs.Links.{links_report};
 
 use crate::open::Opened;
 use crate::report::Report;

@@ -1,14 +1,13 @@
 // `peek`: terms of a heap of any size.
-ghost use Rattle.std.specs.Prelude.{◌≡◌, ◌-◌, ◌<◌, ◌≤◌, ◌++◌, length, map, None, All, IfErr, IfOk, IfSome, OnOk};
-ghost use Rattle.std.specs.List.{between};
+ghost use Rattle.std.specs.Prelude.{◌≡◌, ◌-◌, ◌<◌, ◌++◌, map, None, All, IfErr, IfOk, OnOk};
 ghost use Rattle.binary_refs.specs.Previews.{AreFor};
 ghost use Rattle.command_words.specs.Command.{peek_roots, peek_term, IsAskInRange};
-ghost use Rattle.dump_io.specs.Dumps.{size_of, IfTold, IsOpen, ReadsAtMost};
-ghost use Rattle.dump_sections.specs.Bodies.{body_size, section_in};
+ghost use Rattle.dump_io.specs.Dumps.{ReadsAtMost};
+ghost use Rattle.dump_sections.specs.Bodies.{body_size, section_in, IsPlaceIn};
 ghost use Rattle.dump_sections.specs.Index.{IsBuiltOver};
 ghost use Rattle.heap_lines.specs.Wholes.{is_known, HasLines, ServesLines};
 ghost use Rattle.root_views.specs.Seen.{content};
-ghost use Rattle.root_lines.specs.Shown.{shown_roots, IsPlaced, IsRootsCauseOf};
+ghost use Rattle.root_lines.specs.Shown.{IsPlaced, IsRootsCauseOf};
 ghost use Rattle.term_forms.specs.Seen.{element};
 ghost use Rattle.root_views.specs.Roots.{term_in};
 ghost use Rattle.term_text.specs.Reach.{root_elements};
@@ -153,35 +152,8 @@ impl Report for PeekTerm<'_> {
     }
 }
 
-// Reads of the roots of the body between two offsets those that are shown.
-fn read_between<D: Dumps>(
-    at: &Opened<'_>,
-    dumps: &mut D,
-    from: u64,
-    end: u64,
-    roots: &PeekRoots<'_>,
-) -> Result<(ShownRoots, u64), RootsFault>
-    requires open { IsOpen (D.state dumps.old).now }
-    requires within { end ≤ size_of (D.state dumps.old).now }
-    requires ordered { from ≤ end }
-    ensures reads { ReadsAtMost (D.state dumps.old) (D.state dumps.new) (end - from) }
-    ensures fault { IfErr result (IsRootsCauseOf (D.state dumps.old) (D.state dumps.new)) }
-    ensures base { IfOk result (λ read. read.1 ≡ from) }
-    ensures places { IfOk result (λ read. All (IsPlaced from) read.0.shown) }
-    ensures shown { IfOk result (λ read. IfTold (D.state dumps.old).now (λ dump.
-        read.0 ≡ shown_roots roots.now.kind roots.now.first roots.now.count (between from end dump))) }
-{
-    let PeekRoots {
-        kind,
-        first,
-        count,
-        ..
-    } = *roots;
-    let shown = ShownRoots::load(at.alloc, dumps, from, end, kind, first, u64::from(count))?;
-    Ok((shown, from))
-}
-
-// The same for the body of the section at `place`. A missing section counts as empty.
+// Reads of the roots in the section at `place` those that are shown, and returns where
+// its body begins in the file. A missing section counts as empty.
 fn read_roots<D: Dumps>(
     at: &Opened<'_>,
     dumps: &mut D,
@@ -189,18 +161,22 @@ fn read_roots<D: Dumps>(
     roots: &PeekRoots<'_>,
 ) -> Result<(ShownRoots, u64), RootsFault>
     requires over { IsBuiltOver (D.state dumps.old).now at.now.index.now }
-    requires place { IfSome place (λ i. i < length at.now.index.now.headers) }
+    requires place { IsPlaceIn at.now.index.now place }
     ensures reads { ReadsAtMost (D.state dumps.old) (D.state dumps.new)
         (body_size (section_in at.now.index.now place)) }
     ensures fault { IfErr result (IsRootsCauseOf (D.state dumps.old) (D.state dumps.new)) }
     ensures roots { let found = section_in at.now.index.now place in IfOk result
         (AreRootsFound (D.state dumps.old).now found roots.now.kind roots.now.first roots.now.count) }
 {
-    let Some(i) = place else {
-        return read_between(at, dumps, 0, 0, roots);
-    };
-    let section = at.index.section(i);
-    read_between(at, dumps, section.body, section.end, roots)
+    let PeekRoots {
+        kind,
+        first,
+        count,
+        ..
+    } = *roots;
+    let (from, upto) = at.index.body_at(place);
+    let shown = ShownRoots::load(at.alloc, dumps, from, upto, kind, first, u64::from(count))?;
+    Ok((shown, from))
 }
 
 // Appends the element of a root, if it is a term.

@@ -1,5 +1,4 @@
 // `procs`: the process table.
-ghost use Rattle.report_text.specs.Tables.{procs_report};
 ghost use Rattle.command_words.specs.Command.{procs};
 
 use crate::open::Opened;

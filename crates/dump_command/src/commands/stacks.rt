@@ -1,6 +1,6 @@
 // `stacks`: which processes stand at the same place.
 ghost use Rattle.std.specs.Prelude.{length};
-ghost use Rattle.command_words.specs.Command.{stacks, IsAskInRange};
+ghost use Rattle.command_words.specs.Command.{stacks};
 ghost use Rattle.process_stacks.specs.Groups.{FitsStacks};
 
 use crate::open::Opened;

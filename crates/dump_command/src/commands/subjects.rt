@@ -1,6 +1,6 @@
 // What commands find on the index of a dump and read from it:
 // a process, the body of a section, the heap of a process.
-ghost use Rattle.std.specs.Prelude.{◌≡◌, ◌<◌, List, length, None, Some, IfOk, IfSome};
+ghost use Rattle.std.specs.Prelude.{◌≡◌, ◌<◌, List, length, Some, IfOk, IfSome};
 ghost use Rattle.term_unfold.specs.Parts.{has_cell};
 ghost use Rattle.dump_sections.specs.Bodies.{section_at, section_in};
 ghost use Rattle.dump_sections.specs.Index.{IsBuiltOver, sections_in};

@@ -1,5 +1,4 @@
 // `ets`, `ports`, `nodes` and `mods`: the tables other than the process table.
-ghost use Rattle.report_text.specs.Tables.{rows_report};
 ghost use Rattle.command_words.specs.Command.{table};
 
 use crate::open::Opened;

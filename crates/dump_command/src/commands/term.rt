@@ -3,7 +3,6 @@ ghost use Rattle.std.specs.Prelude.{◌<◌};
 ghost use Rattle.binary_refs.specs.Previews.{AreFor};
 ghost use Rattle.command_words.specs.Command.{term};
 ghost use Rattle.term_unfold.specs.Walks.{new_walk};
-ghost use Rattle.term_text.specs.Roots.{answer_over, term_report};
 
 use crate::commands::subjects::{find_cell, load_heap};
 use crate::open::Opened;

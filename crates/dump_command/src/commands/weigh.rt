@@ -1,7 +1,6 @@
 // `weigh`: which parts of a process's heap alone hold its memory.
 ghost use Rattle.std.specs.Prelude.{◌≡◌, is_some, IfOk, Some};
 ghost use Rattle.command_words.specs.Command.{weigh, weigh_cell};
-ghost use Rattle.part_weights.specs.Weights.{Weighing};
 ghost use Rattle.dump_command.specs.Terms.{address_cause};
 ghost use Rattle.dump_command.specs.Inner.Stops.{Judges};
 

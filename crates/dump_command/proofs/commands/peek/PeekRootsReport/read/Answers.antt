@@ -1,6 +1,6 @@
 use Rattle.std.proofs.Common.{ℕ, Bool, List, None, ap, arith, ◌∙◌, rules}
 use Rattle.std.specs.Option.{option_to_list}
-use Rattle.dump_sections.specs.Bodies.{body_in, body_size}
+use Rattle.dump_sections.specs.Bodies.{body_in, body_size, body_start}
 use Rattle.dump_sections.specs.Index.{sections_in}
 use Rattle.dump_sections.specs.Sections.{Section}
 use Rattle.root_lines.specs.Shown.{shown_roots}
@@ -12,7 +12,7 @@ use Rattle.term_text.specs.Roots.{answer_over, some_roots_report}
 use Rattle.term_unfold.specs.Walks.{Walk}
 use Rattle.command_words.specs.Command.{peek_roots}
 use Rattle.dump_command.specs.Meaning.{meaning, part_in}
-use Rattle.dump_command.specs.Terms.{base_of}
+
 use Rattle.dump_command.specs.Inner.Loads.{walk_in}
 use Rattle.dump_command.proofs.HeapLoads.{roots-found}
 use Rattle.dump_command.proofs.PartLoads.{peeked-told, size-one, HasRead-behind, IsHalted-behind, IsHalted-first, StopsFor-roots}
@@ -76,6 +76,6 @@ returns-clause-reads g c =
     c.in_ok-find_process.ensures.judges _ roots.reads (omega (arith, here, one)) (root_elements c.in_ok-roots.roots.shown) t.nodes after c.in_ok-part.part _ c.in_ok-part.ensures.gives
     (λ bytes all answers.
     peeked-told t.kind t.pid.now bytes t.first t.count t.nodes t.marked at.index.now (walk_in c.in_ok-part.part) c.in_ok-roots.base c.in_ok-roots.roots all.is
-    (roots.roots.base ∙ ap base_of section)
+    (roots.roots.base ∙ ap body_start section)
     (roots.roots.shown bytes all.opened ∙ ap (λ s. shown_roots t.kind t.first t.count (body_in bytes s)) section)
     (λ e inside. answers e inside t.marked))
