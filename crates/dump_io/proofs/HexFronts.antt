@@ -1,5 +1,5 @@
 -- The hex digits that begin a text.
-use Rattle.std.proofs.Common.{◌≡◌, ℕ, ◌^◌, ◌<◌, ◌≤◌, ◌⊎◌, true, List, length, take, Some, None, inl, inr, sym, ◌∙◌, ap, arith}
+use Rattle.std.proofs.Common.{◌≡◌, ℕ, ◌^◌, ◌<◌, ◌≤◌, ◌⊎◌, Bool, true, false, List, length, take, Some, None, inl, inr, refl, sym, ◌∙◌, ap, arith, if◌then◌else◌}
 use Rattle.std.specs.List.{list_all, prefix_len}
 use Rattle.std.specs.Str.Parse.{digits_value}
 use Rattle.std.proofs.lemmas.Bool.{and_parts, leb-true, false≢true}
@@ -9,6 +9,11 @@ use Rattle.std.proofs.lemmas.List.Sums.{prefix_len_stops}
 use Rattle.dump_io.specs.Numbers.{is_hex_digit, is_numeral, hex_number}
 use Rattle.dump_io.specs.Laws.HexNumbers.{digits_value-below, hex_number-digits}
 use Rattle.dump_io.proofs.Numerals.{refuted}
+
+-- what is below 16 is the value of a digit
+pub digit-value : (b : Bool) (value found : ℕ) → found ≡ (if b then value else 16) → found ≤ 15 → (b ≡ true) × (found ≡ value)
+digit-value true value found is few = (refl, is)
+digit-value false value found is few = absurd (omega (arith, is, few))
 
 -- before the last of 16 digits the number has room for one more
 pub front-grows : (text front : List ℕ) → front ≡ take 16 text → (i : ℕ) → i < length front → list_all is_hex_digit (take i front) ≡ true

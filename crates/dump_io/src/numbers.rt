@@ -1,5 +1,5 @@
 // The numbers in a dump's text, and decimal numbers in a report.
-ghost use Rattle.std.specs.Prelude.{◌≡◌, ◌+◌, ◌*◌, ◌<◌, ◌≤◌, ◌^◌, decimal, length, take, Some};
+ghost use Rattle.std.specs.Prelude.{◌≡◌, ◌+◌, ◌*◌, ◌<◌, ◌≤◌, ◌^◌, decimal, length, take, Some, if◌then◌else◌};
 ghost use Rattle.std.specs.Option.{SomeIff};
 ghost use Rattle.std.specs.Char.{digit_value, is_ascii_digit};
 ghost use Rattle.std.specs.List.{list_all, prefix_len};
@@ -47,18 +47,32 @@ pub fn dec_u64(text: &[u8]) -> Option<u64>
     Some(number)
 }
 
-fn is_hex_digit(c: u8) -> bool
-    ensures { result ≡ is_hex_digit c }
-{
-    c.is_ascii_hexdigit()
-}
+// The value of each byte that is a hex digit, of either case; 16 for any other.
+#[rattlefmt::skip]
+static HEX_VALUES: [u8; 256] = [
+    16, 16, 16, 16, 16, 16, 16, 16, 16, 16, 16, 16, 16, 16, 16, 16,
+    16, 16, 16, 16, 16, 16, 16, 16, 16, 16, 16, 16, 16, 16, 16, 16,
+    16, 16, 16, 16, 16, 16, 16, 16, 16, 16, 16, 16, 16, 16, 16, 16,
+     0,  1,  2,  3,  4,  5,  6,  7,  8,  9, 16, 16, 16, 16, 16, 16,
+    16, 10, 11, 12, 13, 14, 15, 16, 16, 16, 16, 16, 16, 16, 16, 16,
+    16, 16, 16, 16, 16, 16, 16, 16, 16, 16, 16, 16, 16, 16, 16, 16,
+    16, 10, 11, 12, 13, 14, 15, 16, 16, 16, 16, 16, 16, 16, 16, 16,
+    16, 16, 16, 16, 16, 16, 16, 16, 16, 16, 16, 16, 16, 16, 16, 16,
+    16, 16, 16, 16, 16, 16, 16, 16, 16, 16, 16, 16, 16, 16, 16, 16,
+    16, 16, 16, 16, 16, 16, 16, 16, 16, 16, 16, 16, 16, 16, 16, 16,
+    16, 16, 16, 16, 16, 16, 16, 16, 16, 16, 16, 16, 16, 16, 16, 16,
+    16, 16, 16, 16, 16, 16, 16, 16, 16, 16, 16, 16, 16, 16, 16, 16,
+    16, 16, 16, 16, 16, 16, 16, 16, 16, 16, 16, 16, 16, 16, 16, 16,
+    16, 16, 16, 16, 16, 16, 16, 16, 16, 16, 16, 16, 16, 16, 16, 16,
+    16, 16, 16, 16, 16, 16, 16, 16, 16, 16, 16, 16, 16, 16, 16, 16,
+    16, 16, 16, 16, 16, 16, 16, 16, 16, 16, 16, 16, 16, 16, 16, 16,
+];
 
-// The value of a hex digit, without a branch, which a processor couldn't foresee.
-fn hex_value(digit: u8) -> u64
-    requires { digit_value digit < 16 }
-    ensures { result ≡ digit_value digit }
+// The value of a hex digit, or 16. A table needs no branch, which a processor couldn't foresee.
+fn hex_value(c: u8) -> u64
+    ensures { result ≡ (if is_hex_digit c then digit_value c else 16) }
 {
-    u64::from(digit % 16 + digit / 64 * 9)
+    u64::from(HEX_VALUES[c as usize])
 }
 
 // As many bytes as a hex number may have.
@@ -78,8 +92,12 @@ pub fn hex_front(text: &[u8]) -> (usize, u64)
     let front = longest_front(text);
     let mut number = 0;
     let mut count = 0;
-    while count < front.len() && is_hex_digit(front[count]) {
-        number = number * 16 + hex_value(front[count]);
+    while count < front.len() {
+        let value = hex_value(front[count]);
+        if value > 15 {
+            return (count, number);
+        }
+        number = number * 16 + value;
         count += 1;
     }
     (count, number)
