@@ -3,6 +3,7 @@ use Rattle.std.proofs.Common.{◌≡◌, ◌⊎◌, inl, inr, ℕ, zero, suc, �
 use Rattle.std.specs.Option.{option_map, option_and_then, option_or, option_to_list}
 use Rattle.std.proofs.lemmas.Bool.{cases_lt, eq-eqb, ne_eqb}
 use Rattle.std.proofs.lemmas.Option.{none-some, same_Some}
+use Rattle.dump_io.specs.Laws.Options.{or-none}
 use Rattle.dump_sections.specs.Index.{Contents}
 use Rattle.binary_payloads.specs.declared.enc.Enc.{Enc}
 use Rattle.binary_refs.specs.declared.entries.Entry.{Entry}
@@ -20,10 +21,6 @@ use Rattle.term_unfold.specs.Walks.{judged_text}
 use Rattle.term_unfold.proofs.Parts.{Knows, knows, some-form, IsLeafOf, same-verdict, same-show}
 
 -- ---- the entry of a cell, by its number
-
-or-none : {X : Type 0} (o : Option X) → option_or o None ≡ o
-or-none None = refl
-or-none (Some x) = refl
 
 -- what gives entries gives each the number of its cell
 abbrev Numbers : (ℕ → HeapForm → Option Entry) → Type 0
