@@ -8,7 +8,7 @@ use Rattle.std.proofs.lemmas.Bool.Decides.{eqb_tells}
 use Rattle.std.proofs.lemmas.List.{get_or-map, length-map}
 use Rattle.std.proofs.lemmas.List.Elements.{All-nil, All-push}
 use Rattle.std.proofs.lemmas.List.Sorted.{IsNonDecreasingBy-push, IsNonDecreasingBy-short}
-use Rattle.std.proofs.lemmas.Option.{none-some, same_Some}
+use Rattle.std.proofs.lemmas.Option.{none-some, same_Some, slice_get_past}
 use Rattle.binary_payloads.specs.declared.enc.Enc.{Enc}
 use Rattle.term_forms.specs.Forms.{HeapForm, RefBin, SubBin}
 use Rattle.dump_sections.specs.Index.{Contents}
@@ -153,19 +153,13 @@ pairs-upto : (cells : List Cell) (n k : ℕ) → AreUpto cells n k
 pairs-upto cells zero k = (λ before. absurd (omega (arith, before)), λ past. refl)
 pairs-upto cells (suc n) k = pairs-step cells n k (pairs-upto cells n k)
 
--- past the last cell there is no form
-form-past : (cells : List Cell) (k : ℕ) → length cells ≤ k → form_at cells k ≡ None
-form-past [] k past = refl
-form-past (cell ∷ cells) zero past = absurd (omega (arith, past))
-form-past (cell ∷ cells) (suc k) past = form-past cells k (omega (arith, past))
-
 pub are-for : (cells : List Cell) (es : List Entry) → map stating es ≡ binaries cells → AreFor cells es
 are-for cells es is n =
     sym (is_some-map stating (entry_at es n)) ∙ ap is_some (stating-at es n ∙ (ap (λ ps. pair_at ps n) is ∙ by (cases_lt n (length cells))))
   where
     by : (n < length cells) ⊎ (length cells ≤ n) → pair_at (binaries cells) n ≡ one_stated cells n
     by (inl inside) = (pairs-upto cells (length cells) n).0 inside
-    by (inr past) = (pairs-upto cells (length cells) n).1 past ∙ sym (ap (option_and_then (stated n)) (form-past cells n past))
+    by (inr past) = (pairs-upto cells (length cells) n).1 past ∙ sym (ap (λ o. option_and_then (stated n) (option_and_then (λ (c : Cell). c.form) o)) (slice_get_past cells n past))
 
 -- ---- entries stand in the order of their cells
 

@@ -10,6 +10,7 @@ use Rattle.std.proofs.lemmas.List.Folds.{list_any-append}
 use Rattle.std.proofs.lemmas.Option.{none-some, same_Some}
 use Rattle.std.proofs.Math.Bool.{or_assoc, or-true}
 use Rattle.std.proofs.Math.Seq.{take-append_seam}
+use Rattle.dump_io.specs.Laws.Lists.{enumerate-push}
 use Rattle.cell_parts.specs.Parts.{ArePartsOf, CellPart, CellParts, PartElement, is_for, part_at, parts_made}
 use Rattle.cell_parts.proofs.Keeping.{counted-none}
 use Rattle.cell_parts.specs.Inner.Joining.{cell_at, counted, is_of, joined, part_alone, with_element}
@@ -130,12 +131,6 @@ pub any-part : (c : ℕ) (es : List PartElement) → list_any (is_of c) (parts_m
 any-part c es = any-from c es [] es refl
 
 -- ---- one more element
-
-enumerate-push : (n : ℕ) (xs : List PartElement) (x : PartElement) → enumerate_from n (xs ++ x ∷ []) ≡ enumerate_from n xs ++ (n + length xs, x) ∷ []
-enumerate-push n [] x = let here : n ≡ n + 0 = omega arith in ap (λ m. (m, x) ∷ []) here
-enumerate-push n (y ∷ xs) x =
-    let there : n + 1 + length xs ≡ n + length (y ∷ xs) = omega arith in
-    ap (λ l. (n, y) ∷ l) (enumerate-push (n + 1) xs x ∙ ap (λ m. enumerate_from (n + 1) xs ++ (m, x) ∷ []) there)
 
 none-filtered : (d : ℕ) (es : List PartElement) → list_any (is_for d) es ≡ false → length (filter (is_for d) es) ≡ 0
 none-filtered d [] none = refl

@@ -1,12 +1,11 @@
 -- The parts as they are kept, one by one.
 use Rattle.std.proofs.Common.{◌≡◌, ℕ, zero, suc, ◌+◌, ◌<◌, ◌≤◌, ◌==◌, ◌||◌, ◌⊎◌, false, All, List, [], ◌∷◌, ◌++◌, length, map, set, get_or, Some, refl, sym, ◌∙◌, ap, subst, inl, inr, arith}
-use Rattle.std.specs.Prelude.{◌-◌, nat_eq, slice_get, slice_range, take, drop, if◌then◌else◌}
+use Rattle.std.specs.Prelude.{nat_eq, slice_get, slice_range, if◌then◌else◌}
 use Rattle.std.specs.List.{list_any, AllByRecursion, IsDistinct}
 use Rattle.std.proofs.lemmas.Bool.{cases_eq, eq-eqb, false≢true, ne_eqb, or_parts}
-use Rattle.std.proofs.lemmas.List.{drop-append-le, length-drop, take-append-le}
 use Rattle.std.proofs.lemmas.List.Elements.{All-head, All-tail}
-use Rattle.std.proofs.Math.Seq.{drop-append_seam, take-length}
 use Rattle.std.proofs.lemmas.Option.{none-some, same_Some, slice_get-get_or, slice_get_within}
+use Rattle.dump_io.specs.Laws.Lists.{between-grown}
 use Rattle.cell_parts.specs.Parts.{CellPart}
 use Rattle.cell_parts.specs.Inner.Joining.{cell_at, counted, is_of}
 use Rattle.cell_parts.specs.Inner.Keeping.{AreNumbered, part_in, parts_in}
@@ -60,28 +59,14 @@ parts-more labels [] (l ∷ kept) c k same = absurd (omega (arith, same))
 parts-more labels (d ∷ cells) [] c k same = absurd (omega (arith, same))
 parts-more labels (d ∷ cells) (l ∷ kept) c k same = ap (λ ps. part_in labels d l ∷ ps) (parts-more labels cells kept c k (omega (arith, same)))
 
--- a longer pool of labels has the same label there
-range-more : (labels more : List ℕ) (from size : ℕ) → from + size ≤ length labels → slice_range (labels ++ more) from (from + size) ≡ slice_range labels from (from + size)
-range-more labels more from size within =
-    let room : from + size - from ≤ length (drop from labels) = omega (arith, within, length-drop from labels) in
-    ap (take (from + size - from)) (drop-append-le from labels more (omega (arith, within)))
-    ∙ take-append-le (from + size - from) (drop from labels) more room
-
+-- a longer pool of labels has the same labels there
 pub parts-longer : (labels more cells : List ℕ) (kept : List Kept) → All (λ k. k.from + k.size ≤ length labels) kept → parts_in (labels ++ more) cells kept ≡ parts_in labels cells kept
 parts-longer labels more [] kept within = refl
 parts-longer labels more (c ∷ cells) [] within = refl
 parts-longer labels more (c ∷ cells) (k ∷ kept) within =
     let fits : k.from + k.size ≤ length labels = All-head (λ (l : Kept). l.from + l.size ≤ length labels) k kept within in
-    ap (λ t. let p : CellPart = record { cell = c; elements = k.elements; at = k.at; label = t } in p ∷ parts_in (labels ++ more) cells kept) (range-more labels more k.from k.size fits)
+    ap (λ t. let p : CellPart = record { cell = c; elements = k.elements; at = k.at; label = t } in p ∷ parts_in (labels ++ more) cells kept) (between-grown labels more k.from (k.from + k.size) (omega arith) fits)
     ∙ ap (λ ps. part_in labels c k ∷ ps) (parts-longer labels more cells kept (All-tail (λ (l : Kept). l.from + l.size ≤ length labels) k kept within))
-
--- the label of the last
-pub range-last : (labels label : List ℕ) → slice_range (labels ++ label) (length labels) (length labels + length label) ≡ label
-range-last labels label =
-    let size : length labels + length label - length labels ≡ length label = omega arith in
-    ap (take (length labels + length label - length labels)) (drop-append_seam labels label)
-    ∙ ap (λ n. take n label) size
-    ∙ take-length label
 
 -- ---- whether a part has the cell
 

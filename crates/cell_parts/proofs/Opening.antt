@@ -9,6 +9,7 @@ use Rattle.cell_records.specs.declared.cells.Kind.{Kind}
 use Rattle.cell_records.specs.declared.cells.Kind.TheVariants as kind
 use Rattle.cell_graphs.specs.Counts.{count_below, one_if}
 use Rattle.cell_graphs.specs.Graphs.{Graph}
+use Rattle.cell_graphs.specs.Laws.Closing.{count-most}
 use Rattle.cell_graphs.specs.Frontiers.{is_on}
 use Rattle.cell_parts.specs.Elements.{Spot, weighed_leads, leads_on, opened_at, spots_of, weighed, weighed_at}
 use Rattle.cell_parts.specs.Kinds.{cell_kind}
@@ -34,14 +35,6 @@ below-less (suc n) m passed less new = elim (cases_eq n m) [
       let here : one_if (not (nat_eq n m || is_on n passed)) ≡ one_if (not (is_on n passed)) = ap (λ b. one_if (not (b || is_on n passed))) (ne_eqb n m other) in
       omega (arith, here, below-less n m passed (omega (arith, less, other)) new)
 ]
-
-one-most : (b : Bool) → one_if b ≤ 1
-one-most true = omega arith
-one-most false = omega arith
-
-pub count-most : (set : ℕ → Bool) (n : ℕ) → count_below set n ≤ n
-count-most set zero = omega arith
-count-most set (suc n) = omega (arith, count-most set n, one-most (set n))
 
 -- ---- what opens
 

@@ -3,11 +3,12 @@ use Rattle.std.proofs.Common.{◌≡◌, ℕ, ◌+◌, ◌<◌, ◌≤◌, ◌^�
 use Rattle.std.specs.List.{list_any}
 use Rattle.std.proofs.lemmas.List.{length-append}
 use Rattle.std.proofs.lemmas.List.Elements.{All-push}
+use Rattle.dump_io.specs.Laws.Lists.{range-last}
 use Rattle.cell_parts.specs.Parts.{CellPart, CellParts}
 use Rattle.cell_parts.specs.Inner.Joining.{is_of, part_alone}
 use Rattle.cell_parts.specs.Inner.Keeping.{AreKept, part_in, parts_in}
 use Rattle.cell_parts.specs.declared.parts.Kept.{Kept}
-use Rattle.cell_parts.proofs.Keeping.{not-there, numbered-more, parts-longer, parts-more, range-last}
+use Rattle.cell_parts.proofs.Keeping.{not-there, numbered-more, parts-longer, parts-more}
 
 fits-more : (labels label : List ℕ) (kept : List Kept) → All (λ (k : Kept). k.from + k.size ≤ length labels) kept → All (λ (k : Kept). k.from + k.size ≤ length (labels ++ label)) kept
 fits-more labels label kept all k d within = omega (arith, all k d within, length-append labels label)

@@ -5,20 +5,14 @@ use Rattle.std.specs.List.{enumerate_from, flat_map}
 use Rattle.std.specs.Option.{option_map}
 use Rattle.std.proofs.lemmas.List.{drop_all, length-map, reverse-append}
 use Rattle.std.proofs.lemmas.List.FromFn.{length-enumerate_from}
-use Rattle.std.proofs.lemmas.Option.{none-some, same_Some, slice_get-map}
-use Rattle.dump_io.specs.Laws.Lists.{drop-at}
+use Rattle.std.proofs.lemmas.Option.{slice_get-map}
+use Rattle.dump_io.specs.Laws.Lists.{drop-at, enumerate-at}
 use Rattle.cell_records.specs.declared.cells.Kind.{Kind}
 use Rattle.cell_graphs.specs.Graphs.{Graph, places_at}
 use Rattle.cell_parts.specs.Elements.{Spot, spots_of}
 use Rattle.cell_parts.specs.Kinds.{cell_kind}
 use Rattle.cell_parts.specs.Inner.Walking.{places_left, spot_at, spots_from, waiting}
 use Rattle.cell_parts.specs.declared.elements.Frame.{Frame}
-
-enumerate-at : {X : Type 0} (n : ℕ) (xs : List X) (k : ℕ) (x : X) → slice_get xs k ≡ Some x → slice_get (enumerate_from n xs) k ≡ Some (n + k, x)
-enumerate-at n [] zero x is = absurd (none-some x is)
-enumerate-at n [] (suc k) x is = absurd (none-some x is)
-enumerate-at n (y ∷ xs) zero x is = let place : n ≡ n + 0 = omega arith in ap (λ z. Some (n, z)) (same_Some y x is) ∙ ap (λ m. Some (m, x)) place
-enumerate-at n (y ∷ xs) (suc k) x is = let place : n + 1 + k ≡ n + suc k = omega arith in enumerate-at (n + 1) xs k x is ∙ ap (λ m. Some (m, x)) place
 
 module _ (kinds : List (Option Kind)) (graph : Graph) where
   spot-there : (at : Frame) (lead : Option ℕ) → slice_get (places_at graph at.cell) at.place ≡ Some lead

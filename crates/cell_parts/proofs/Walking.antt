@@ -1,24 +1,20 @@
 -- One place of the walk, and its end.
-use Rattle.std.proofs.Common.{◌≡◌, ℕ, zero, suc, ◌+◌, ◌-◌, ◌<◌, Bool, true, false, not, List, [], ◌∷◌, ◌++◌, length, map, set, get_or, Option, None, Some, refl, sym, ◌∙◌, ap, subst, arith, length-append, append-nil, Result, Ok, Err}
+use Rattle.std.proofs.Common.{◌≡◌, ℕ, ◌+◌, ◌-◌, ◌<◌, Bool, true, false, not, List, [], ◌∷◌, ◌++◌, length, map, set, Option, None, Some, refl, sym, ◌∙◌, ap, subst, arith, length-append, append-nil, Result, Ok, Err}
 use Rattle.std.specs.Prelude.{codes, replicate}
 use Rattle.std.specs.List.{enumerate_from}
 use Rattle.std.specs.Result.{OnOk}
 use Rattle.std.proofs.lemmas.List.{append_assoc, map-append}
+use Rattle.dump_io.specs.Laws.Lists.{enumerate-push, none-on}
 use Rattle.cell_records.specs.declared.cells.Kind.{Kind}
 use Rattle.cell_graphs.specs.Graphs.{Graph}
+use Rattle.cell_graphs.specs.Laws.Closing.{count-most}
 use Rattle.cell_graphs.specs.Frontiers.{is_on}
 use Rattle.cell_parts.specs.Elements.{Spot, cell_elements, opened_at, placed_leads, spots_of, weighed, weighed_at}
 use Rattle.cell_parts.specs.Parts.{ArePartsOf, CellParts, PartElement}
 use Rattle.cell_parts.specs.Inner.Walking.{AreMarked, HasAdded, IsWalking}
-use Rattle.cell_parts.proofs.Opening.{count-most, marked-more, unpassed-less, weighed-none, weighed-some}
+use Rattle.cell_parts.proofs.Opening.{marked-more, unpassed-less, weighed-none, weighed-some}
 
 -- ---- one more element
-
-enumerate-push : (n : ℕ) (xs : List (Option ℕ)) (x : Option ℕ) → enumerate_from n (xs ++ x ∷ []) ≡ enumerate_from n xs ++ (n + length xs, x) ∷ []
-enumerate-push n [] x = let here : n ≡ n + 0 = omega arith in ap (λ m. (m, x) ∷ []) here
-enumerate-push n (y ∷ xs) x =
-    let there : n + 1 + length xs ≡ n + length (y ∷ xs) = omega arith in
-    ap (λ l. (n, y) ∷ l) (enumerate-push (n + 1) xs x ∙ ap (λ m. enumerate_from (n + 1) xs ++ (m, x) ∷ []) there)
 
 placed-push : (leads : List (Option ℕ)) (lead : Option ℕ)
     → placed_leads (leads ++ lead ∷ []) ≡ placed_leads leads ++ (let e : PartElement = record { lead = lead; at = length leads; label = codes "-" } in e) ∷ []
@@ -86,12 +82,6 @@ module _ (kinds : List (Option Kind)) (graph : Graph) (cell : ℕ) (before parts
   }
 
 -- ---- the first cell, and the end
-
-none-on : (cells n : ℕ) → get_or (replicate cells false) n false ≡ false
-none-on zero zero = refl
-none-on zero (suc n) = refl
-none-on (suc cells) zero = refl
-none-on (suc cells) (suc n) = none-on cells n
 
 marked-none : (cells : ℕ) → AreMarked (replicate cells false) []
 marked-none cells n within = none-on cells n

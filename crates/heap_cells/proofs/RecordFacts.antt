@@ -4,8 +4,8 @@ use Rattle.std.specs.Prelude.{slice_get, is_some, IsSome, IfSome}
 use Rattle.std.specs.Option.{option_map}
 use Rattle.std.specs.List.{flat_map}
 use Rattle.std.proofs.lemmas.Option.{slice_get-map, slice_get_read, slice_get-get_or}
-use Rattle.std.proofs.lemmas.List.{length-map, length-take, drop-drop, take-map, drop-map, append-nil}
-use Rattle.std.proofs.Math.Seq.{drop-append_seam}
+use Rattle.std.proofs.lemmas.List.{length-map, length-take, take-map, drop-map, append-nil}
+use Rattle.std.proofs.Math.Seq.{drop-append-add, take-append_seam}
 use Rattle.std.proofs.lemmas.List.Sums.{sum_by-cons}
 use Rattle.binary_payloads.specs.declared.enc.Enc.{Enc}
 use Rattle.term_forms.specs.Elements.{Element}
@@ -67,20 +67,13 @@ length-more f (x ∷ rs) (suc i) r is =
     let later = length-more f rs i r is in
     omega (arith, later, length-append (f x) (flat_map f (take (suc i) rs)), length-append (f x) (flat_map f (take i rs)))
 
-take-front : {X : Type 0} (xs ys : List X) → take (length xs) (xs ++ ys) ≡ xs
-take-front [] ys = refl
-take-front (x ∷ xs) ys = ap (λ l. x ∷ l) (take-front xs ys)
-
-drop-front : {X : Type 0} (xs ys : List X) (n : ℕ) → drop (length xs + n) (xs ++ ys) ≡ drop n ys
-drop-front xs ys n = sym (drop-drop n (length xs) (xs ++ ys)) ∙ ap (drop n) (drop-append_seam xs ys)
-
 piece : (f : CellRecord → List Element) (rs : List CellRecord) (i : ℕ) (r : CellRecord) → slice_get rs i ≡ Some r
     → take (length (f r)) (drop (length (flat_map f (take i rs))) (flat_map f rs)) ≡ f r
 piece f [] i r is = cc
-piece f (x ∷ rs) zero r is = let same : x ≡ r = cc in ap (λ y. take (length (f r)) (f y ++ flat_map f rs)) same ∙ take-front (f r) (flat_map f rs)
+piece f (x ∷ rs) zero r is = let same : x ≡ r = cc in ap (λ y. take (length (f r)) (f y ++ flat_map f rs)) same ∙ take-append_seam (f r) (flat_map f rs)
 piece f (x ∷ rs) (suc i) r is =
     ap (λ n. take (length (f r)) (drop n (f x ++ flat_map f rs))) (length-append (f x) (flat_map f (take i rs)))
-    ∙ ap (take (length (f r))) (drop-front (f x) (flat_map f rs) (length (flat_map f (take i rs))))
+    ∙ ap (take (length (f r))) (drop-append-add (f x) (flat_map f rs) (length (flat_map f (take i rs))))
     ∙ piece f rs i r is
 
 -- the slots of a record lie within all of them, and lead where its elements do

@@ -6,13 +6,12 @@ use Rattle.std.proofs.lemmas.Bool.{eqb-true}
 use Rattle.std.proofs.lemmas.Grind.{common_steps}
 use Rattle.std.proofs.lemmas.List.{get_or-take, length-take-le}
 use Rattle.std.proofs.lemmas.List.Elements.{All-head, All-tail}
-use Rattle.std.proofs.Math.Seq.{take-length}
+use Rattle.std.proofs.Math.Seq.{drop-append_seam, take-append-add, take-length}
 use Rattle.memchr.specs.Find.{Passes, is_byte, Nowhere}
 use Rattle.dump_io.specs.Lines.{lf, cr, lines_after, raw_lines, text_of, HasLfLast, IsEnded}
 use Rattle.dump_io.specs.Laws.LineFeeds.{lf_free}
 use Rattle.dump_io.specs.Laws.Lines.{length-text_of, raw_lines-ended, raw_lines-inner}
 use Rattle.dump_io.specs.Laws.Reads.{take-two}
-use Rattle.heap_parts.specs.Laws.Lines.{drop-front, take-front}
 use Rattle.heap_parts.specs.Inner.Pieces.{BeginsLine, IsFirstLine, IsCutAt}
 use Rattle.body_lines.specs.Laws.{AreWhole-ended}
 use Rattle.body_lines.specs.Lines.{AreWhole, HasNoLf}
@@ -126,17 +125,14 @@ text-front raw =
       | false ↦ elim (ends_with nat_eq raw (lf ∷ [])) as (λ b. let text = if b then take (length raw - 1) raw else raw in take (length text) raw ≡ text) [ true ↦ take-own (length raw - 1) raw | false ↦ take-length raw ]
     ]
 
-take-behind : (xs ys : List ℕ) (n : ℕ) → take (length xs + n) (xs ++ ys) ≡ xs ++ take n ys
-take-behind xs ys n = take-two (length xs) n (xs ++ ys) ∙ ap (λ l. l ++ take n (drop (length xs) (xs ++ ys))) (take-front xs ys) ∙ ap (λ l. xs ++ take n l) (drop-front xs ys)
-
 -- what stands behind the line's text is cut off
 pub text-cut : (old lines raw kept last : List ℕ) (len : ℕ) → lines ≡ old ++ raw → len ≡ length (text_of (drop (length old) lines)) → kept ≡ take (length old + len) lines → last ≡ kept ++ (cr ∷ lf ∷ [])
     → last ≡ old ++ ended_text (text_of raw)
 text-cut old lines raw kept last len is count cut pushed =
-    let behind : drop (length old) lines ≡ raw = ap (drop (length old)) is ∙ drop-front old raw in
+    let behind : drop (length old) lines ≡ raw = ap (drop (length old)) is ∙ drop-append_seam old raw in
     let size : len ≡ length (text_of raw) = count ∙ ap (λ l. length (text_of l)) behind in
     let front : kept ≡ old ++ text_of raw =
-    cut ∙ ap (take (length old + len)) is ∙ take-behind old raw len ∙ ap (λ n. old ++ take n raw) size ∙ ap (λ l. old ++ l) (text-front raw) in
+    cut ∙ ap (take (length old + len)) is ∙ take-append-add old raw len ∙ ap (λ n. old ++ take n raw) size ∙ ap (λ l. old ++ l) (text-front raw) in
     pushed ∙ ap (λ l. l ++ (cr ∷ lf ∷ [])) front ∙ append_assoc old (text_of raw) (cr ∷ lf ∷ [])
 
 -- CR and LF are appended at least

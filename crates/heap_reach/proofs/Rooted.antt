@@ -2,6 +2,7 @@
 use Rattle.std.proofs.Common.{◌≡◌, ℕ, Bool, true, false, ◌||◌, ◌↔◌, List, [], ◌∷◌, ◌++◌, refl, sym, ◌∙◌, ap, inl, inr}
 use Rattle.std.proofs.lemmas.Bool.{eq-eqb, eqb-true, false≢true, or_cases, or_left, or_right}
 use Rattle.std.proofs.lemmas.List.Folds.{list_any-append}
+use Rattle.dump_io.specs.Laws.Lists.{same-bools}
 use Rattle.term_forms.specs.Elements.{Element}
 use Rattle.heap_cells.specs.Cells.{Cell}
 use Rattle.heap_cells.specs.HeapMap.{HeapMap}
@@ -13,11 +14,6 @@ use Rattle.heap_reach.specs.Reached.{Begun, Reaching}
 use Rattle.heap_reach.specs.Rounds.{is_at, is_referred, reached_by, IsReachOf}
 use Rattle.cell_graphs.specs.Laws.Closing.{found-reached, reached-found}
 use Rattle.cell_graphs.specs.Laws.Spreading.{reached-closed, reached-more}
-
-bool-same : (a b : Bool) → (a ≡ true → b ≡ true) → (b ≡ true → a ≡ true) → a ≡ b
-bool-same true b there back = sym (there refl)
-bool-same false true there back = back refl
-bool-same false false there back = refl
 
 not-true : (b : Bool) → (b ≡ true → ⊥) → b ≡ false
 not-true true other = absurd (other refl)
@@ -75,7 +71,7 @@ module _ (cells : List Cell) where
 
     one-more : (n : ℕ) (b : Bool) → ((b ≡ true) ↔ Reached graph (Begun cells marks e) n) → b ≡ reached_by cells all n
     one-more n b reached =
-        bool-same b (reached_by cells all n)
+        same-bools b (reached_by cells all n)
         (λ is. reached-found graph (is_referred cells all) within n
         (reached-closed graph (Begun cells marks e) (Reached graph (λ j. is_referred cells all j ≡ true)) n (reached.0 is) begun-reached (λ m k r leads. step m k r leads)))
         (λ is. reached.1 (reached-more graph (λ j. is_referred cells all j ≡ true) (Begun cells marks e) n referred-begun (found-reached graph (is_referred cells all) n is)))

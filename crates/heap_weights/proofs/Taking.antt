@@ -8,7 +8,7 @@ use Rattle.std.proofs.lemmas.List.Sums.{sum_by-set}
 use Rattle.cell_graphs.specs.Graphs.{Graph, Leads, places_at}
 use Rattle.cell_graphs.specs.Reached.{IsIn}
 use Rattle.cell_graphs.specs.Frontiers.{Adds, LeadsBy, is_on, unmarked}
-use Rattle.cell_graphs.specs.Laws.Adding.{Adds-same, Adds-then}
+use Rattle.cell_graphs.specs.Laws.Adding.{Adds-same, Adds-then, gets-set, had-set}
 use Rattle.cell_graphs.specs.Laws.Places as walk
 use Rattle.heap_weights.specs.declared.holders.Holder.{Holder}
 use Rattle.heap_weights.specs.declared.holders.Holder.TheVariants.{Nobody}
@@ -84,12 +84,6 @@ Takes-stopped labels c stopped = record {
 
 only-set : (marks : List Bool) (c n : ℕ) → IsIn (set marks c true) n → IsIn marks n ⊎ (n ≡ c)
 only-set marks c n is = elim (cases_eq n c) [ inl same ↦ inr same | inr other ↦ inl (sym (get_or-set_other marks c n true false other) ∙ is) ]
-
-gets-set : (marks : List Bool) (c n : ℕ) → c < length marks → n ≡ c → IsIn (set marks c true) n
-gets-set marks c n lt same = subst (λ x. get_or (set marks c true) x false ≡ true) (sym same) (get_or-set_same marks c true false lt)
-
-had-set : (marks : List Bool) (c n : ℕ) → c < length marks → IsIn marks n → IsIn (set marks c true) n
-had-set marks c n lt is = elim (cases_eq n c) [ inl same ↦ gets-set marks c n lt same | inr other ↦ get_or-set_other marks c n true false other ∙ is ]
 
 work-set : (marks : List Bool) (c : ℕ) (waiting : List ℕ) → c < length marks → get_or marks c false ≡ false
     → sum_by unmarked (set marks c true) + length (c ∷ waiting) ≡ sum_by unmarked marks + length waiting

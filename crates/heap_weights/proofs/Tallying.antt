@@ -4,6 +4,7 @@ use Rattle.std.specs.Prelude.{Result, Ok, Err, IfOk}
 use Rattle.std.proofs.Math.Path.{fun_ext}
 use Rattle.cell_graphs.specs.Counts.{count_below, one_if}
 use Rattle.cell_graphs.specs.Graphs.{Graph}
+use Rattle.cell_graphs.specs.Laws.Closing.{count-most}
 use Rattle.cell_words.specs.Words.{words_at}
 use Rattle.heap_weights.specs.declared.holders.Holder.{Holder}
 use Rattle.heap_weights.specs.declared.holders.Holder.TheVariants.{Several, Part}
@@ -16,14 +17,6 @@ use Rattle.heap_weights.specs.Inner.Labels.{AreHeldBy, IsRested, Labelling}
 use Rattle.heap_weights.specs.Inner.Tallies.{Gains, HasTallied, added_if, alone_at, no_weight}
 
 -- ---- one cell more
-
-one-most : (b : Bool) → one_if b ≤ 1
-one-most true = omega arith
-one-most false = omega arith
-
-count-most : (set : ℕ → Bool) (n : ℕ) → count_below set n ≤ n
-count-most set zero = omega arith
-count-most set (suc n) = omega (arith, count-most set n, one-most (set n))
 
 words-most : (b : Bool) (words : ℕ) → words_if b words ≤ words
 words-most true words = omega arith

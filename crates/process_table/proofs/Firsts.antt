@@ -1,12 +1,13 @@
 -- The first section of each process, where sections come one after another.
-use Rattle.std.proofs.Common.{◌≡◌, ℕ, zero, suc, ◌+◌, Bool, true, false, cond, not, ◌||◌, List, [], ◌∷◌, ◌++◌, take, filter, slice_get, Some, refl, ◌∙◌, ap, arith, if◌then◌else◌}
-use Rattle.std.specs.List.{list_any, enumerate_from}
+use Rattle.std.proofs.Common.{◌≡◌, ℕ, ◌+◌, Bool, true, false, cond, not, ◌||◌, List, [], ◌∷◌, ◌++◌, take, filter, slice_get, Some, refl, ◌∙◌, ap, arith, if◌then◌else◌}
+use Rattle.std.specs.List.{list_any}
 use Rattle.std.specs.Str.{bytes_eq}
 use Rattle.std.proofs.lemmas.List.{append-nil, take_more}
 use Rattle.std.proofs.lemmas.List.Elements.{filter-append}
 use Rattle.std.proofs.lemmas.Option.{get_or_from_slice_get, slice_get_within}
 use Rattle.dump_sections.specs.Sections.{Section}
 use Rattle.process_table.specs.Records.{PlacedSection, placed_sections, is_process, pid_of, process_sections, has_same_pid, first_of_each}
+use Rattle.dump_io.specs.Laws.Lists.{enumerate-at}
 use Rattle.dump_io.specs.Laws.Texts.{bytes_eq-same, bytes_eq-swap}
 
 -- whether one of these sections has the pid
@@ -59,13 +60,8 @@ first_of_each-more [] p = refl
 first_of_each-more (first ∷ sections) p = ap (λ l. first ∷ others first l) (first_of_each-more sections p) ∙ step first p (first_of_each sections)
 
 -- the section at a place, with its place
-enumerated-at : (n : ℕ) (sections : List Section) (i : ℕ) (s : Section) → slice_get sections i ≡ Some s → slice_get (enumerate_from n sections) i ≡ Some (n + i, s)
-enumerated-at n [] i s is = cc
-enumerated-at n (first ∷ sections) zero s is = grind arith
-enumerated-at n (first ∷ sections) (suc i) s is = grind (arith, enumerated-at (n + 1) sections i s is)
-
 pub placed-at : (sections : List Section) (i : ℕ) (s : Section) → slice_get sections i ≡ Some s → slice_get (placed_sections sections) i ≡ Some (i, s)
-placed-at sections i s is = let zero_more : 0 + i ≡ i = omega arith in enumerated-at 0 sections i s is ∙ ap (λ k. Some (k, s)) zero_more
+placed-at sections i s is = let zero_more : 0 + i ≡ i = omega arith in enumerate-at 0 sections i s is ∙ ap (λ k. Some (k, s)) zero_more
 
 -- one section more
 pub take-placed : (sections : List Section) (i : ℕ) (s : Section) → slice_get sections i ≡ Some s → take (i + 1) (placed_sections sections) ≡ take i (placed_sections sections) ++ (i, s) ∷ []

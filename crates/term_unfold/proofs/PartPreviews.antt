@@ -2,7 +2,8 @@
 use Rattle.std.proofs.Common.{◌≡◌, ◌⊎◌, inl, inr, ℕ, zero, suc, ◌<◌, ◌≤◌, ◌==◌, Bool, true, false, if◌then◌else◌, List, [], ◌∷◌, ◌++◌, length, Option, None, Some, IsSome, is_some, refl, sym, ◌∙◌, ap, ap₂, subst, arith}
 use Rattle.std.specs.Option.{option_map, option_and_then, option_or, option_to_list}
 use Rattle.std.proofs.lemmas.Bool.{cases_lt, eq-eqb, ne_eqb}
-use Rattle.std.proofs.lemmas.Option.{none-some, same_Some}
+use Rattle.std.proofs.lemmas.Option.{none-some, same_Some, slice_get_past}
+use Rattle.dump_io.specs.Laws.Options.{or-none}
 use Rattle.dump_sections.specs.Index.{Contents}
 use Rattle.binary_payloads.specs.declared.enc.Enc.{Enc}
 use Rattle.binary_refs.specs.declared.entries.Entry.{Entry}
@@ -20,10 +21,6 @@ use Rattle.term_unfold.specs.Walks.{judged_text}
 use Rattle.term_unfold.proofs.Parts.{Knows, knows, some-form, IsLeafOf, same-verdict, same-show}
 
 -- ---- the entry of a cell, by its number
-
-or-none : {X : Type 0} (o : Option X) → option_or o None ≡ o
-or-none None = refl
-or-none (Some x) = refl
 
 -- what gives entries gives each the number of its cell
 abbrev Numbers : (ℕ → HeapForm → Option Entry) → Type 0
@@ -84,17 +81,12 @@ entries-upto : (f : ℕ → HeapForm → Option Entry) (cells : List Cell) (n k 
 entries-upto f cells zero k numbered = (λ before. absurd (omega (arith, before)), λ past. refl)
 entries-upto f cells (suc n) k numbered = entries-step f cells n k numbered (entries-upto f cells n k numbered)
 
-form-past : (cells : List Cell) (k : ℕ) → length cells ≤ k → form_at cells k ≡ None
-form-past [] k past = refl
-form-past (cell ∷ cells) zero past = absurd (omega (arith, past))
-form-past (cell ∷ cells) (suc k) past = form-past cells k (omega (arith, past))
-
 entry-of : (f : ℕ → HeapForm → Option Entry) (cells : List Cell) (n : ℕ) → Numbers f → entry_at (by_number f cells (length cells)) n ≡ one_of f cells n
 entry-of f cells n numbered = by (cases_lt n (length cells))
   where
     by : (n < length cells) ⊎ (length cells ≤ n) → entry_at (by_number f cells (length cells)) n ≡ one_of f cells n
     by (inl inside) = (entries-upto f cells (length cells) n numbered).0 inside
-    by (inr past) = (entries-upto f cells (length cells) n numbered).1 past ∙ sym (ap (option_and_then (f n)) (form-past cells n past))
+    by (inr past) = (entries-upto f cells (length cells) n numbered).1 past ∙ sym (ap (λ o. option_and_then (f n) (option_and_then (λ (c : Cell). c.form) o)) (slice_get_past cells n past))
 
 preview-numbers : (dump : List ℕ) (index : Contents) (enc : Enc) (cells : List Cell) → Numbers (preview_entry dump index enc cells)
 preview-numbers dump index enc cells n (RefBin address offset size) e is =

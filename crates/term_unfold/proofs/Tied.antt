@@ -6,11 +6,11 @@ use Rattle.std.proofs.lemmas.List.{length-set, length-map, length-reverse, get_o
 use Rattle.std.proofs.lemmas.Grind.{reverse_onto}
 use Rattle.std.proofs.lemmas.Bool.{cases_eq, eq-eqb, eqb-true, false≢true, ne_eqb, or_cases}
 use Rattle.std.proofs.lemmas.Map.Steps.{length-le_from_distinct_below}
+use Rattle.dump_io.specs.Laws.Lists.{none_passes}
 use Rattle.heap_cells.specs.Targets.{number}
 use Rattle.term_unfold.specs.declared.path.Entry.{Entry}
 use Rattle.term_unfold.specs.Inner.Entries.{Entered, numbers_of, altered, IsLine, IsTied}
 use Rattle.term_unfold.specs.Rules.{is_on}
-use Rattle.term_unfold.proofs.Levels.{none_passes}
 
 -- a line of numbers has no more cells than there are
 

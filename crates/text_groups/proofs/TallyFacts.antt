@@ -14,7 +14,7 @@ use Rattle.std.proofs.lemmas.List.Sums.{sum_by-append, sum_by-cons}
 use Rattle.std.proofs.lemmas.Map.Text.{btree_map_updates_str}
 use Rattle.std.proofs.lemmas.Option.{slice_get-get_or, slice_get_within}
 use Rattle.std.proofs.lemmas.Slice.Eq.{bytes_eq-Decides}
-use Rattle.dump_io.specs.Laws.Lists.{take-at}
+use Rattle.dump_io.specs.Laws.Lists.{enumerate-push, filter_map-one, take-at}
 use Rattle.dump_io.specs.Laws.Texts.{bytes_eq-refl, bytes_eq-swap}
 use Rattle.size_order.specs.Sums.{capped}
 use Rattle.text_groups.specs.Groups.{Item, group_at, groups, has_text, item_at, members}
@@ -164,19 +164,6 @@ left-more items i s old new at before updates = record { each = each }
             ∙ sym (ap (told other) (any-more items i s other at) ∙ told-same other (list_any (has_text other) (take i items)) (bytes_eq other s.text) (bytes_eq-swap other s.text ∙ e))
 
 -- ---- lists
-
-enumerate-push : {X : Type 0} (n : ℕ) (xs : List X) (x : X) → enumerate_from n (xs ++ x ∷ []) ≡ enumerate_from n xs ++ (n + length xs, x) ∷ []
-enumerate-push n [] x = let here : n ≡ n + 0 = omega arith in ap (λ m. (m, x) ∷ []) here
-enumerate-push n (y ∷ xs) x =
-    let there : n + 1 + length xs ≡ n + length (y ∷ xs) = omega arith in
-    ap (λ l. (n, y) ∷ l) (enumerate-push (n + 1) xs x ∙ ap (λ m. enumerate_from (n + 1) xs ++ (m, x) ∷ []) there)
-
-filter_map-one : {X Y : Type 0} (h : X → Option Y) (x : X) → filter_map h (x ∷ []) ≡ option_to_list (h x)
-filter_map-one {Y = Y} h x = of (h x)
-  where
-    of : (o : Option Y) → cons_option o [] ≡ option_to_list o
-    of None = refl
-    of (Some y) = refl
 
 -- the group of one item more
 groups-more : (items : List Item) (i : ℕ) (s : Item) → slice_get items i ≡ Some s

@@ -1,10 +1,11 @@
 -- Marking a cell and putting it on the list.
 use Rattle.std.proofs.Common.{◌≡◌, ℕ, zero, suc, ◌<◌, ◌≤◌, Bool, true, false, ◌||◌, ◌⊎◌, nat_eq, List, [], ◌∷◌, ◌++◌, length, get_or, set, MatchOption, Option, None, Some, option_to_list, refl, sym, ◌∙◌, ap, subst, inl, inr, arith}
 use Rattle.std.specs.Prelude.{reverse}
-use Rattle.std.specs.List.{list_any, IsDistinct, AllByRecursion}
+use Rattle.std.specs.List.{IsDistinct}
 use Rattle.std.proofs.lemmas.List.{length-set, length-reverse, get_or-set_same, get_or-set_other, reverse-append}
-use Rattle.std.proofs.lemmas.Bool.{cases_eq, eq-eqb, false≢true, or_cases, or_parts, or_right, eqb-true}
+use Rattle.std.proofs.lemmas.Bool.{cases_eq, eq-eqb, false≢true, or_cases, or_right, eqb-true}
 use Rattle.std.proofs.lemmas.Map.Steps.{length-le_from_distinct_below}
+use Rattle.dump_io.specs.Laws.Lists.{none_passes}
 use Rattle.cell_graphs.specs.Reached.{IsIn}
 use Rattle.cell_graphs.specs.Frontiers.{Frontier, is_on, IsTied, Adds}
 
@@ -12,10 +13,6 @@ pub reverse-push : (items : List ℕ) (c : ℕ) → reverse (items ++ c ∷ []) 
 reverse-push items c = reverse-append items (c ∷ [])
 
 -- ---- no more cells wait than there are marks
-
-none_passes : (p : ℕ → Bool) (xs : List ℕ) → list_any p xs ≡ false → AllByRecursion (λ y. p y ≡ false) xs
-none_passes p [] none = tt
-none_passes p (x ∷ xs) none = let parts = or_parts (p x) (list_any p xs) none in (parts.0, none_passes p xs parts.1)
 
 -- one more number that isn't among them
 distinct-more : (c : ℕ) (cs : List ℕ) → is_on c cs ≡ false → IsDistinct nat_eq cs → IsDistinct nat_eq (c ∷ cs)
@@ -34,15 +31,11 @@ length-waiting marks waiting distinct marked =
 
 -- ---- a mark is set
 
-had-set : (marks : List Bool) (c n : ℕ) → c < length marks → IsIn marks n → IsIn (set marks c true) n
-had-set marks c n lt is =
-    elim (cases_eq n c) [
-      | inl same ↦ subst (λ x. get_or (set marks c true) x false ≡ true) (sym same) (get_or-set_same marks c true false lt)
-      | inr other ↦ get_or-set_other marks c n true false other ∙ is
-    ]
-
-gets-set : (marks : List Bool) (c n : ℕ) → c < length marks → n ≡ c → IsIn (set marks c true) n
+pub gets-set : (marks : List Bool) (c n : ℕ) → c < length marks → n ≡ c → IsIn (set marks c true) n
 gets-set marks c n lt same = subst (λ x. get_or (set marks c true) x false ≡ true) (sym same) (get_or-set_same marks c true false lt)
+
+pub had-set : (marks : List Bool) (c n : ℕ) → c < length marks → IsIn marks n → IsIn (set marks c true) n
+had-set marks c n lt is = elim (cases_eq n c) [ inl same ↦ gets-set marks c n lt same | inr other ↦ get_or-set_other marks c n true false other ∙ is ]
 
 waits-here : (waiting : List ℕ) (c n : ℕ) → n ≡ c → is_on n (c ∷ waiting) ≡ true
 waits-here waiting c n same = ap (λ b. b || is_on n waiting) (eq-eqb n c same)

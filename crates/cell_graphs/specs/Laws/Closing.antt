@@ -14,7 +14,7 @@ one-most : (b : Bool) → one_if b ≤ 1
 one-most true = omega arith
 one-most false = omega arith
 
-count-most : (p : ℕ → Bool) (n : ℕ) → count_below p n ≤ n
+pub count-most : (p : ℕ → Bool) (n : ℕ) → count_below p n ≤ n
 count-most p zero = omega arith
 count-most p (suc n) = omega (arith, count-most p n, one-most (p n))
 

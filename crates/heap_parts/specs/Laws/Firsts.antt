@@ -1,10 +1,12 @@
 -- The first lines of addresses make a part of the heap.
-use Rattle.std.proofs.Common.{◌≡◌, ℕ, zero, suc, ◌+◌, ◌==◌, Bool, true, false, cond, ◌||◌, if◌then◌else◌, List, [], ◌∷◌, ◌++◌, drop, Option, None, Some, is_some, slice_get, find, refl, sym, ◌∙◌, ap, eqb-true, arith}
+use Rattle.std.proofs.Common.{◌≡◌, ℕ, suc, ◌+◌, ◌==◌, Bool, true, false, cond, ◌||◌, if◌then◌else◌, List, [], ◌∷◌, ◌++◌, drop, Option, None, Some, is_some, find, refl, sym, ◌∙◌, ap, eqb-true, arith}
 use Rattle.std.specs.List.{list_any, position_from}
 use Rattle.std.specs.Option.{option_map, option_and_then, option_to_list}
 use Rattle.std.proofs.lemmas.Bool.{true≢false, false≢true, or_parts}
 use Rattle.std.proofs.lemmas.Iterator.Adapters.{position_from-zero}
 use Rattle.std.proofs.lemmas.Option.{same_Some}
+use Rattle.dump_io.specs.Laws.Lists.{drop-next}
+use Rattle.dump_io.specs.Laws.Options.{is_some-map}
 use Rattle.heap_cells.specs.Cells.{Cell, first_cells}
 use Rattle.heap_cells.specs.HeapMap.{number_at, form_at}
 use Rattle.term_unfold.specs.Maps.{form_at_address}
@@ -16,12 +18,6 @@ use Rattle.heap_parts.specs.Firsts.{first_with, EachFirst, AreFirstLines}
 -- whether a cell has the address
 abbrev has_address : ℕ → Cell → Bool
 has_address a cell = cell.address == a
-
-drop-next : {X : Type 0} (xs : List X) (i : ℕ) (x : X) (rest : List X) → drop i xs ≡ x ∷ rest → (slice_get xs i ≡ Some x) × (drop (suc i) xs ≡ rest)
-drop-next [] zero x rest is = let no : [] ≡ x ∷ rest = is in cc
-drop-next [] (suc i) x rest is = let no : [] ≡ x ∷ rest = is in cc
-drop-next (y ∷ ys) zero x rest is = let same : y ∷ ys ≡ x ∷ rest = is in let first : y ≡ x = cc in let later : ys ≡ rest = cc in (ap Some first, later)
-drop-next (y ∷ ys) (suc i) x rest is = drop-next ys i x rest is
 
 form-of : (heap : List Cell) (a i : ℕ) (cells : List Cell) → drop i heap ≡ cells
     → option_map (form_at heap) (position_from (has_address a) i cells) ≡ option_map (λ cell. cell.form) (find (has_address a) cells)
@@ -39,13 +35,9 @@ form-of heap a i (cell ∷ cells) at =
 pub form-first : (heap : List Cell) (a : ℕ) → form_at_address heap a ≡ option_map (λ cell. cell.form) (first_with heap a)
 form-first heap a = ap (option_map (form_at heap)) (position_from-zero (has_address a) heap) ∙ form-of heap a 0 heap refl
 
-some-mapped : {X Y : Type 0} (f : X → Y) (o : Option X) → is_some (option_map f o) ≡ is_some o
-some-mapped f None = refl
-some-mapped f (Some x) = refl
-
 pub has-first : (heap : List Cell) (a : ℕ) → has_cell heap a ≡ is_some (first_with heap a)
 has-first heap a =
-    sym (some-mapped (form_at heap) (number_at heap a)) ∙ ap is_some (form-first heap a) ∙ some-mapped (λ (cell : Cell). cell.form) (first_with heap a)
+    sym (is_some-map (form_at heap) (number_at heap a)) ∙ ap is_some (form-first heap a) ∙ is_some-map (λ (cell : Cell). cell.form) (first_with heap a)
 
 -- ---- dropping what has an address that was seen
 

@@ -1,11 +1,13 @@
 -- A line that is appended to whole lines gives one cell more, if it is a heap line; and the text of a line has no LF.
-use Rattle.std.proofs.Common.{◌≡◌, ◌⊎◌, inl, inr, ℕ, suc, ◌+◌, ◌-◌, nat_eq, Bool, true, false, if◌then◌else◌, List, [], ◌∷◌, ◌++◌, length, take, drop, map, Option, None, Some, refl, sym, ◌∙◌, ap, append_assoc, length-append, arith, ◌<◌, ◌≤◌, get_or, get_or-take, slice_get, unwrap_or, subst, take-take, drop-cons, true≢false}
+use Rattle.std.proofs.Common.{◌≡◌, ◌⊎◌, inl, inr, ℕ, suc, ◌+◌, ◌-◌, nat_eq, Bool, true, false, if◌then◌else◌, List, [], ◌∷◌, ◌++◌, length, take, drop, map, refl, sym, ◌∙◌, ap, append_assoc, length-append, arith, ◌<◌, ◌≤◌, get_or, get_or-take, slice_get, unwrap_or, subst, take-take, drop-cons, true≢false}
 use Rattle.std.specs.Prelude.{◌≢◌, All}
 use Rattle.std.specs.List.{filter_map, cons_option, ends_with}
 use Rattle.std.specs.Option.{option_to_list}
 use Rattle.std.proofs.lemmas.Bool.{cases_lt}
 use Rattle.std.proofs.lemmas.List.{drop_all, length-take-le}
 use Rattle.std.proofs.lemmas.List.Elements.{All-from_get_or, All-head, All-nil, All-tail, All-take, All-push, filter_map-append}
+use Rattle.std.proofs.Math.Seq.{drop-append_seam, take-append_seam}
+use Rattle.dump_io.specs.Laws.Lists.{filter_map-one}
 use Rattle.dump_io.specs.Lines.{lf, cr, lines_after, raw_lines, lines_from, text_of, HasLfLast}
 use Rattle.dump_io.specs.Laws.Lines.{AreLines-raw, raw_lines-inner}
 use Rattle.body_lines.specs.Laws.{AreWhole-ended, AreWhole-then}
@@ -35,38 +37,26 @@ cells-raw enc at (raw ∷ raws) = ap (cons_option (text_cell enc (text_of raw)))
 
 -- ---- the text of a line that is written
 
-pub drop-front : (xs ys : List ℕ) → drop (length xs) (xs ++ ys) ≡ ys
-drop-front [] ys = refl
-drop-front (x ∷ xs) ys = drop-front xs ys
-
-pub take-front : (xs ys : List ℕ) → take (length xs) (xs ++ ys) ≡ xs
-take-front [] ys = refl
-take-front (x ∷ xs) ys = ap (λ l. x ∷ l) (take-front xs ys)
-
 -- whatever it ends in, a text with CR and LF behind it has the same text
 text-ended : (text : List ℕ) → text_of (text ++ cr ∷ lf ∷ []) ≡ text
 text-ended text =
     let raw = text ++ cr ∷ lf ∷ [] in
     let count : length raw - 2 ≡ length text = omega (arith, length-append text (cr ∷ lf ∷ [])) in
-    let end : drop (length raw - 2) raw ≡ cr ∷ lf ∷ [] = ap (λ n. drop n raw) count ∙ drop-front text (cr ∷ lf ∷ []) in
+    let end : drop (length raw - 2) raw ≡ cr ∷ lf ∷ [] = ap (λ n. drop n raw) count ∙ drop-append_seam text (cr ∷ lf ∷ []) in
     let ends : ends_with nat_eq raw (cr ∷ lf ∷ []) ≡ true = rw end refl in
     ap (λ b. if b then take (length raw - 2) raw else (if ends_with nat_eq raw (lf ∷ []) then take (length raw - 1) raw else raw)) ends
-    ∙ ap (λ n. take n raw) count ∙ take-front text (cr ∷ lf ∷ [])
+    ∙ ap (λ n. take n raw) count ∙ take-append_seam text (cr ∷ lf ∷ [])
 
 no_lf-cr : (text : List ℕ) → HasNoLf text → HasNoLf (text ++ cr ∷ [])
 no_lf-cr text none = All-push (λ c. c ≢ lf) text cr none (λ same. let no : 13 ≡ 10 = same in omega (arith, no))
 
 -- ---- one more line
 
-cons-list : (o : Option Cell) → cons_option o [] ≡ option_to_list o
-cons-list None = refl
-cons-list (Some x) = refl
-
 line-cells : (enc : Enc) (text : List ℕ) → HasNoLf text → raw_cells enc (raw_lines (text ++ cr ∷ lf ∷ [])) ≡ option_to_list (text_cell enc text)
 line-cells enc text none =
     ap (λ bytes. raw_cells enc (raw_lines bytes)) (sym (append_assoc text (cr ∷ []) (lf ∷ [])))
     ∙ ap (raw_cells enc) (one-line (text ++ cr ∷ []) (no_lf-cr text none))
-    ∙ cons-list (text_cell enc (text_of ((text ++ cr ∷ []) ++ lf ∷ [])))
+    ∙ filter_map-one (λ raw. text_cell enc (text_of raw)) ((text ++ cr ∷ []) ++ lf ∷ [])
     ∙ ap (λ raw. option_to_list (text_cell enc (text_of raw))) (append_assoc text (cr ∷ []) (lf ∷ []))
     ∙ ap (λ t. option_to_list (text_cell enc t)) (text-ended text)
 

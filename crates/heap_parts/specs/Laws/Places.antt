@@ -1,8 +1,9 @@
 -- The first line with an address is the one that begins at its place.
-use Rattle.std.proofs.Common.{◌≡◌, ◌⊎◌, inl, inr, ℕ, zero, suc, ◌+◌, ◌<◌, ◌≤◌, ◌==◌, Bool, true, false, cond, if◌then◌else◌, List, [], ◌∷◌, ◌++◌, length, drop, map, Option, None, Some, is_some, slice_get, unwrap_or, find, refl, sym, ◌∙◌, ap, drop-drop, arith}
+use Rattle.std.proofs.Common.{◌≡◌, ◌⊎◌, inl, inr, ℕ, ◌+◌, ◌<◌, ◌≤◌, ◌==◌, Bool, true, false, cond, if◌then◌else◌, List, [], ◌∷◌, ◌++◌, length, drop, map, Option, None, Some, is_some, slice_get, unwrap_or, find, refl, sym, ◌∙◌, ap, drop-drop}
 use Rattle.std.specs.List.{filter_map, cons_option}
 use Rattle.std.specs.Option.{option_map, option_and_then, option_or}
 use Rattle.std.proofs.lemmas.Bool.{cases_lt}
+use Rattle.std.proofs.lemmas.List.{drop_all}
 use Rattle.dump_io.specs.Lines.{lf, lines_after, raw_lines, lines_from, text_of}
 use Rattle.field_lines.specs.Lines.{text_line}
 use Rattle.binary_payloads.specs.declared.enc.Enc.{Enc}
@@ -13,7 +14,7 @@ use Rattle.heap_parts.specs.Places.{placed_line, placed_lines, place_with, text_
 
 -- ---- the lines behind the first
 
-raws-behind : (bytes raw : List ℕ) (raws : List (List ℕ)) → raw_lines bytes ≡ raw ∷ raws → raw_lines (drop (length raw) bytes) ≡ raws
+pub raws-behind : (bytes raw : List ℕ) (raws : List (List ℕ)) → raw_lines bytes ≡ raw ∷ raws → raw_lines (drop (length raw) bytes) ≡ raws
 raws-behind [] raw raws is = let no : [] ≡ raw ∷ raws = is in cc
 raws-behind (c ∷ bytes) raw raws is = by (raw_lines bytes) refl (raws-behind bytes) (c == lf) is
   where
@@ -34,12 +35,6 @@ raws-behind (c ∷ bytes) raw raws is = by (raw_lines bytes) refl (raws-behind b
         let left : lines ≡ raws = cc in
         ap (λ r. raw_lines (drop (length r) (c ∷ bytes))) (sym first) ∙ rest line lines at ∙ left
 
-drop-past : (n : ℕ) (bytes : List ℕ) → length bytes ≤ n → drop n bytes ≡ []
-drop-past zero [] past = refl
-drop-past zero (c ∷ bytes) past = absurd (omega (arith, past))
-drop-past (suc n) [] past = refl
-drop-past (suc n) (c ∷ bytes) past = drop-past n bytes (omega (arith, past))
-
 -- ---- lines that are read where they stand
 
 -- what is read where each line stands is its text
@@ -57,7 +52,7 @@ each-reads read base at body (raw ∷ raws) reads is = (
   where
     inside : (at < length body) ⊎ (length body ≤ at) → at < length body
     inside (inl before) = before
-    inside (inr past) = let no : [] ≡ raw ∷ raws = ap raw_lines (sym (drop-past at body past)) ∙ is in absurd (cc)
+    inside (inr past) = let no : [] ≡ raw ∷ raws = ap raw_lines (sym (drop_all at body past)) ∙ is in absurd (cc)
 
 -- the cells of raw lines, the first of which is at this place
 abbrev cells_from : Enc → ℕ → List (List ℕ) → List Cell
