@@ -1,5 +1,5 @@
 // The first place of each key.
-ghost use Rattle.std.specs.Prelude.{◌≡◌, true, false, IfOk};
+ghost use Rattle.std.specs.Prelude.{◌≡◌, true, false, IfOk, OnOk};
 ghost use Rattle.std.specs.List.Sorted.{IsPartitionPoint, IsSortedByKey};
 ghost use Rattle.std.specs.Ordering.{is_lt};
 ghost use Rattle.first_sections.specs.Places.{place_by};
@@ -14,6 +14,22 @@ fn count_below<K: Ord + Copy>(pairs: &[(K, usize)], key: K) -> usize
         (λ pair. is_lt (K.cmp pair.0 key) ≡ false) pairs.now result }
 {
     pairs.partition_point(|pair| pair.0.cmp(&key).is_lt())
+}
+
+// Sorts pairs by key, so that those with the same key stay in their order.
+fn sort_pairs<K: Ord + Copy>(pairs: &mut Vec<(K, usize)>) -> Result<(), AllocError>
+    ensures sorted { OnOk result (IsSortedByKey (λ pair. pair.0) K.cmp pairs.new.items) }
+    ensures firsts { OnOk result ((key : K) → place_by K.cmp key pairs.new.items
+        ≡ place_by K.cmp key pairs.old.items) }
+{
+    // A stable sort of keys in no order takes a second array as long as the pairs. If the places
+    // ascend, they tell which pair came first, and a sort by key and place needs none.
+    if pairs.is_sorted_by_key(|pair| pair.1) {
+        pairs.sort_unstable();
+        return Ok(());
+    }
+    pairs.sort_by_key(|pair| pair.0)?;
+    Ok(())
 }
 
 /// Keys and places, sorted by key, so that the first place of a key is found by a binary search. Those with the
@@ -35,12 +51,13 @@ impl<K: Ord + Copy> Model for FirstPlaces<K> {
 }
 
 impl<K: Ord + Copy> FirstPlaces<K> {
-    /// Sorts keys and their places. Returns an error only if memory is lacking.
+    /// Sorts keys and their places. If the places ascend, no memory is taken for it; otherwise at most as much again as
+    /// the pairs take. Returns an error only if memory is lacking.
     pub fn of(mut pairs: Vec<(K, usize)>) -> Result<FirstPlaces<K>, AllocError>
         ensures { IfOk result (λ firsts. (key : K) → place_by K.cmp key firsts
             ≡ place_by K.cmp key pairs.items) }
     {
-        pairs.sort_by_key(|pair| pair.0)?;
+        sort_pairs(&mut pairs)?;
         Ok(FirstPlaces { pairs })
     }
 

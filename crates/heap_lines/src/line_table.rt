@@ -60,7 +60,7 @@ impl Model for LineTable {
 
 impl LineTable {
     /// Reads the bytes of the open file between two offsets, in pieces of at most 65,536 bytes, whatever their
-    /// number, and keeps of each heap line its address and its offset: 16 bytes. The table is sorted once.
+    /// number, and keeps of each heap line its address and its offset: 16 bytes. The table is sorted once, in place.
     ///
     /// `Read` is returned only if the device's count of faults rose, and `Memory` may come from any
     /// allocation. Whatever it returns, no more bytes are read than lie between the offsets.

@@ -1,12 +1,12 @@
 // The heap lines of a process and of the literals, which stay in the file.
-ghost use Rattle.std.specs.Prelude.{◌≡◌, ◌+◌, ◌-◌, ◌<◌, ◌≤◌, length, min, IfErr, IfOk, IfSome};
-ghost use Rattle.dump_io.specs.Dumps.{Now, size_of, IsOpen, ReadsAtMost, IfTold};
-ghost use Rattle.dump_sections.specs.Bodies.{body_size, section_in};
+ghost use Rattle.std.specs.Prelude.{◌≡◌, ◌+◌, ◌≤◌, min, IfErr, IfOk};
+ghost use Rattle.dump_io.specs.Dumps.{Now, size_of, ReadsAtMost, IfTold};
+ghost use Rattle.dump_sections.specs.Bodies.{body_size, section_in, IsPlaceIn};
 ghost use Rattle.dump_sections.specs.Index.{IsBuiltOver, sections_in};
 ghost use Rattle.heap_cells.specs.Loading.{enc_of, heap_section, literals_section};
 ghost use Rattle.heap_parts.specs.Firsts.{IsLawful};
 ghost use Rattle.heap_lines.specs.Tables.{IsTableCauseOf};
-ghost use Rattle.heap_lines.specs.Wholes.{cells_in, is_known, HasLines, IsTableIn, ServesLines};
+ghost use Rattle.heap_lines.specs.Wholes.{cells_in, is_known, HasLines, ServesLines};
 ghost use Rattle.heap_lines.specs.Inner.Bodies.{AreBodyLines, span_of};
 
 use crate::faults::TableFault;
@@ -36,27 +36,6 @@ pub struct HeapLines {
     enc: Enc,
 }
 
-// The lines of the body between two offsets.
-fn lines_between<D: Dumps>(
-    alloc: Global,
-    dumps: &mut D,
-    from: u64,
-    end: u64,
-) -> Result<BodyLines, TableFault>
-    requires open { IsOpen (D.state dumps.old).now }
-    requires within { end ≤ size_of (D.state dumps.old).now }
-    requires ordered { from ≤ end }
-    ensures reads { ReadsAtMost (D.state dumps.old) (D.state dumps.new) (end - from) }
-    ensures fault { IfErr result (IsTableCauseOf (D.state dumps.old) (D.state dumps.new)) }
-    ensures from { IfOk result (λ lines. lines.from ≡ from) }
-    ensures end { IfOk result (λ lines. lines.end ≡ end) }
-    ensures table { IfOk result (λ lines. IfTold (D.state dumps.old).now
-        (λ dump. IsTableIn dump lines)) }
-{
-    let table = LineTable::read(alloc, dumps, from, end)?;
-    Ok(BodyLines { table, from, end })
-}
-
 // The lines of the section at a place. A missing section counts as empty.
 fn body_lines<D: Dumps>(
     alloc: Global,
@@ -65,18 +44,16 @@ fn body_lines<D: Dumps>(
     place: Option<usize>,
 ) -> Result<BodyLines, TableFault>
     requires over { IsBuiltOver (D.state dumps.old).now index.now }
-    requires place { IfSome place (λ i. i < length index.now.headers) }
+    requires place { IsPlaceIn index.now place }
     ensures reads { ReadsAtMost (D.state dumps.old) (D.state dumps.new)
         (body_size (section_in index.now place)) }
     ensures fault { IfErr result (IsTableCauseOf (D.state dumps.old) (D.state dumps.new)) }
     ensures lines { IfOk result
         (AreBodyLines (D.state dumps.old).now (section_in index.now place)) }
 {
-    let Some(i) = place else {
-        return lines_between(alloc, dumps, 0, 0);
-    };
-    let section = index.section(i);
-    lines_between(alloc, dumps, section.body, section.end)
+    let (from, end) = index.body_at(place);
+    let table = LineTable::read(alloc, dumps, from, end)?;
+    Ok(BodyLines { table, from, end })
 }
 
 // A place, or the end if it is past that.
@@ -162,7 +139,6 @@ impl WholeHeap for HeapLines {
         self.enc
     }
 
-    // A line is read in pieces of so few bytes that what is read in vain stays within 16 times what is appended.
     fn push_line<D: Dumps>(
         &self,
         dumps: &mut D,
@@ -170,8 +146,7 @@ impl WholeHeap for HeapLines {
         limit: usize,
         lines: &mut Vec<u8>,
     ) -> Result<(), PartFault> {
-        let mut piece = [0u8; 28];
         let (from, upto) = span(self, addr);
-        push_text(dumps, from, upto, &mut piece, limit, lines)
+        push_text(dumps, from, upto, limit, lines)
     }
 }

@@ -4,9 +4,10 @@ use Rattle.std.specs.Prelude.{◌≢◌, All, nat_eq, slice_index, if◌then◌e
 use Rattle.std.specs.List.{between, ends_with}
 use Rattle.std.proofs.lemmas.Bool.{eqb-true}
 use Rattle.std.proofs.lemmas.Grind.{common_steps}
-use Rattle.std.proofs.lemmas.List.{get_or-take, length-take-le}
+use Rattle.std.proofs.lemmas.List.{drop_all, get_or-take, length-take-le}
 use Rattle.std.proofs.lemmas.List.Elements.{All-head, All-tail}
 use Rattle.std.proofs.Math.Seq.{drop-append_seam, take-append-add, take-length}
+use borrow.Rule.Slice.PartMut.{put_mid}
 use Rattle.memchr.specs.Find.{Passes, is_byte, Nowhere}
 use Rattle.dump_io.specs.Lines.{lf, cr, lines_after, raw_lines, text_of, HasLfLast, IsEnded}
 use Rattle.dump_io.specs.Laws.LineFeeds.{lf_free}
@@ -50,6 +51,18 @@ between-join i j k xs first second =
     ap (λ n. take n (drop i xs)) parts ∙ take-two (j - i) (k - j) (drop i xs)
     ∙ ap (λ l. take (j - i) (drop i xs) ++ take (k - j) l) (drop-drop (j - i) i xs ∙ ap (λ n. drop n xs) place)
     )
+
+-- what stands from a place on becomes what was read
+pub filled-behind : (from at : ℕ) (bytes into dump : List ℕ) → from ≤ length bytes → length into ≡ length bytes - from → into ≡ take (length into) (drop at dump)
+    → put_mid from (length bytes - from) bytes into ≡ take from bytes ++ between at (at + (length bytes - from)) dump
+filled-behind from at bytes into dump inside size is =
+    let none : drop (length bytes - from) (drop from bytes) ≡ [] = drop_all (length bytes - from) (drop from bytes) (omega (arith, length-drop from bytes)) in
+    let count : length into ≡ at + (length bytes - from) - at = omega (arith, size) in
+    ap (λ l. take from bytes ++ (into ++ l)) none ∙ ap (λ l. take from bytes ++ l) (append-nil into ∙ is ∙ ap (λ n. take n (drop at dump)) count)
+
+-- what was appended stands behind what was there
+pub piece-behind : (lines grown bytes piece : List ℕ) (kept : ℕ) → kept ≡ length lines → bytes ≡ grown → grown ≡ lines ++ piece → drop kept bytes ≡ piece
+piece-behind lines grown bytes piece kept is same pushed = ap (drop kept) (same ∙ pushed) ∙ ap (λ n. drop n (lines ++ piece)) is ∙ drop-front lines piece
 
 -- what was read so far
 pub record HasRead (old lines front : List ℕ) : Type 0 where
@@ -98,13 +111,6 @@ read-line old lines later piece dump from at n upto end order inside so_far is l
     let first : first_raw (between from upto dump) ≡ front ++ cut =
     ap first_raw body ∙ so_far.begins.begins (cut ++ (drop end piece ++ rest)) ∙ ap (λ l. front ++ l) (line.whole (drop end piece ++ rest)) in
     pushed ∙ ap (λ l. l ++ cut) so_far.lines_are ∙ append_assoc old front cut ∙ ap (λ l. old ++ l) (sym first)
-
--- the front of a front
-pub take-less : (m n : ℕ) (xs : List ℕ) → m ≤ length (take n xs) → take m (take n xs) ≡ take m xs
-take-less zero n xs fits = refl
-take-less (suc m) zero xs fits = absurd (omega (arith, fits))
-take-less (suc m) (suc n) [] fits = refl
-take-less (suc m) (suc n) (x ∷ xs) fits = ap (λ l. x ∷ l) (take-less m n xs (omega (arith, fits)))
 
 -- ---- the text of a line that was read
 
