@@ -13,7 +13,7 @@ use Rattle.heap_parts.specs.Places.{placed_line, placed_lines, place_with, text_
 
 -- ---- the lines behind the first
 
-raws-behind : (bytes raw : List ℕ) (raws : List (List ℕ)) → raw_lines bytes ≡ raw ∷ raws → raw_lines (drop (length raw) bytes) ≡ raws
+pub raws-behind : (bytes raw : List ℕ) (raws : List (List ℕ)) → raw_lines bytes ≡ raw ∷ raws → raw_lines (drop (length raw) bytes) ≡ raws
 raws-behind [] raw raws is = let no : [] ≡ raw ∷ raws = is in cc
 raws-behind (c ∷ bytes) raw raws is = by (raw_lines bytes) refl (raws-behind bytes) (c == lf) is
   where
