@@ -7,7 +7,7 @@ ghost use Rattle.process_table.specs.Records.{proc_places};
 ghost use Rattle.audit_bodies.specs.Mailboxes.{audited_sections, mailbox_places, mailboxes_at};
 ghost use Rattle.audit_bodies.specs.Bodies.{AreBodiesOf, IsAuditable};
 ghost use Rattle.audit_bodies.specs.Inner.Places.{AreBodyPlaces, sections_found};
-ghost use Rattle.audit_bodies.specs.Inner.Mailboxes.{IsWithin};
+ghost use Rattle.dump_sections.specs.Bodies.{IsPlaceIn};
 
 use crate::mailboxes::{mailboxes, present};
 use crate::messages::count_messages;
@@ -45,7 +45,7 @@ fn find_mailboxes(
     requires { found.now ≡ proc_places (sections_in index.now) }
     ensures places { IfOk result (λ places. places.items
         ≡ (if full then mailbox_places (sections_in index.now) else [])) }
-    ensures within { IfOk result (λ places. All (IsWithin index.now) places.items) }
+    ensures within { IfOk result (λ places. All (IsPlaceIn index.now) places.items) }
 {
     if !full {
         return Ok(Vec::new(alloc));

@@ -3,7 +3,7 @@ ghost use Rattle.std.specs.Prelude.{◌≡◌, ◌<◌, length, map, All, IfOk};
 ghost use Rattle.dump_sections.specs.Index.{sections_in};
 ghost use Rattle.dump_sections.specs.Loading.{sections_at};
 ghost use Rattle.audit_bodies.specs.Mailboxes.{mailbox_place, mailboxes_at};
-ghost use Rattle.audit_bodies.specs.Inner.Mailboxes.{IsWithin};
+ghost use Rattle.dump_sections.specs.Bodies.{IsPlaceIn};
 
 use dump_sections::Index;
 use first_sections::FirstSections;
@@ -18,7 +18,7 @@ pub(crate) fn mailboxes(
 ) -> Result<Vec<Option<usize>>, AllocError>
     ensures places { IfOk result (λ places. places.items
         ≡ map (mailbox_place (sections_in index.now)) (map (λ p. p.0) found.now.places)) }
-    ensures within { IfOk result (λ places. All (IsWithin index.now) places.items) }
+    ensures within { IfOk result (λ places. All (IsPlaceIn index.now) places.items) }
 {
     let firsts = FirstSections::find(alloc, index, b"proc_messages".as_slice())?;
     let mut places = Vec::new(alloc);
@@ -36,7 +36,7 @@ pub(crate) fn present(
     index: &Index,
     places: &[Option<usize>],
 ) -> Result<Vec<usize>, AllocError>
-    requires { All (IsWithin index.now) places.now }
+    requires { All (IsPlaceIn index.now) places.now }
     ensures sections { IfOk result (λ present. sections_at index.now present.items
         ≡ mailboxes_at (sections_in index.now) places.now) }
     ensures within { IfOk result (λ present.

@@ -1,11 +1,11 @@
 // Counting the messages of processes, one mailbox after another.
 ghost use Rattle.std.specs.Prelude.{◌≡◌, [], ◌∷◌, ◌<◌, ◌≤◌, length, map, Some, All, IfOk, IfErr};
 ghost use Rattle.dump_io.specs.Dumps.{IfTold, ReadsAtMost};
-ghost use Rattle.dump_sections.specs.Bodies.{section_at, body_length};
+ghost use Rattle.dump_sections.specs.Bodies.{section_at, body_length, IsPlaceIn};
 ghost use Rattle.dump_sections.specs.Index.{IsBuiltOver};
 ghost use Rattle.dump_sections.specs.Loading.{IsUnloaded};
 ghost use Rattle.audit_bodies.specs.Mailboxes.{mail_of};
-ghost use Rattle.audit_bodies.specs.Inner.Mailboxes.{IsSmall, IsWithin, mails_length};
+ghost use Rattle.audit_bodies.specs.Inner.Mailboxes.{IsSmall, mails_length};
 
 use dump_audit::is_cut;
 use dump_io::{Dumps, Limits};
@@ -47,7 +47,7 @@ fn count_in<D: Dumps>(
     limits: &Limits,
 ) -> Result<Option<u64>, BodyFault>
     requires over { IsBuiltOver (D.state dumps.old).now index.now }
-    requires within { IsWithin index.now place }
+    requires within { IsPlaceIn index.now place }
     requires small { IsSmall index.now limits.now.section place }
     ensures reads { ReadsAtMost (D.state dumps.old) (D.state dumps.new)
         (mails_length index.now (place ∷ [])) }
@@ -71,7 +71,7 @@ pub(crate) fn count_messages<D: Dumps>(
     limits: &Limits,
 ) -> Result<Vec<Option<u64>>, BodyFault>
     requires over { IsBuiltOver (D.state dumps.old).now index.now }
-    requires within { All (IsWithin index.now) places.now }
+    requires within { All (IsPlaceIn index.now) places.now }
     requires small { All (IsSmall index.now limits.now.section) places.now }
     ensures reads { ReadsAtMost (D.state dumps.old) (D.state dumps.new)
         (mails_length index.now places.now) }

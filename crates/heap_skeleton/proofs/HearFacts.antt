@@ -1,13 +1,15 @@
 -- What is heard of the lines of a heap.
-use Rattle.std.proofs.Common.{◌≡◌, ℕ, List, [], length, refl, ◌∙◌, ap}
-use Rattle.std.specs.Prelude.{Result, Ok, Err, OnOk, IfErr, Option, None, Some}
+use Rattle.std.proofs.Common.{◌≡◌, ℕ, List, [], length, refl, ◌∙◌, ap, ap₂}
+use Rattle.std.specs.Prelude.{Result, Ok, Err, OnOk, IfErr, Option}
+use Rattle.std.specs.List.{between}
 use Rattle.body_lines.specs.Hearing.{Hears, HearsBody, StopsAmong}
 use Rattle.body_lines.specs.Lines.{lines_at}
 use Rattle.dump_io.specs.Dumps.{Now}
 use Rattle.dump_io.specs.Lines.{Line}
+use Rattle.dump_sections.specs.Bodies.{body_in, body_start}
 use Rattle.dump_sections.specs.Sections.{Section}
 use Rattle.heap_skeleton.specs.declared.heap_sink.HeapSink.{HeapSink}
-use Rattle.heap_skeleton.specs.Inner.Hearing.{TakesLines, HearsBetween, HearsSection, HoldsSections, section_lines}
+use Rattle.heap_skeleton.specs.Inner.Hearing.{TakesLines, HearsSection, HoldsSections, section_lines}
 use Rattle.heap_skeleton.specs.Inner.Held.{heap_lines, Gains, IsHeld}
 use Rattle.heap_skeleton.proofs.GainFacts.{Gains-none, IsHeld-then, hears-takes, length-parts}
 
@@ -26,22 +28,17 @@ pub run-stops : {E : Type 0} (r : Result (Unit {0}) E) (old new : HeapSink) (lin
 run-stops (Ok u) old new lines = tt
 run-stops (Err e) old new lines = record { heard = []; rest = lines; parts = refl; stopped = record { later = λ first earlier had. tt } }
 
-pub between-hears : (old new : HeapSink) (from upto : ℕ) (now : Now) → HearsBody TakesLines lines_at old new from upto now → HearsBetween old new now from upto
-between-hears old new from upto now body =
-    let took = body.heard.later old [] (TakesLines-none old) in
+-- what a sink heard of the body of a section
+pub section-hears : (old new : HeapSink) (now : Now) (from upto : ℕ) (found : Option Section) → from ≡ body_start found → ((dump : List ℕ) → between from upto dump ≡ body_in dump found)
+    → HearsBody TakesLines lines_at old new from upto now → HearsSection old new now found
+section-hears old new now from upto found start body heard =
+    let took = heard.heard.later old [] (TakesLines-none old) in
     record {
       enc = took.enc;
-      lines = heap_lines old.enc body.lines;
+      lines = heap_lines old.enc heard.lines;
       gains = took.gains;
-      are = λ dump is. ap (heap_lines old.enc) (body.are dump is);
+      are = λ dump is. ap (heap_lines old.enc) (heard.are dump is ∙ ap₂ lines_at start (body dump));
     }
-
--- no section, and so no lines
-pub section-none : (old : HeapSink) (now : Now) → HearsSection old old now None
-section-none old now = record { enc = refl; lines = []; gains = Gains-none old.held; are = λ dump is. refl }
-
-pub section-hears : (old new : HeapSink) (now : Now) (s : Section) → HearsBetween old new now s.body s.end → HearsSection old new now (Some s)
-section-hears old new now s heard = record { enc = heard.enc; lines = heard.lines; gains = heard.gains; are = heard.are }
 
 -- both sections
 pub sections-hold : (first mid last : HeapSink) (now now' : Now) (heap literals : Option Section) (own : ℕ) → IsHeld [] first.held → now' ≡ now → HearsSection first mid now heap

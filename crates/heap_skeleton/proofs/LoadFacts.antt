@@ -7,7 +7,7 @@ use Rattle.std.proofs.Math.Seq.{take-append_seam}
 use Rattle.binary_payloads.specs.declared.enc.Enc.{Enc}
 use Rattle.dump_io.specs.Dumps.{Now}
 use Rattle.dump_io.specs.Lines.{lines_from, raw_lines, text_of}
-use Rattle.dump_sections.specs.Bodies.{body_in}
+use Rattle.dump_sections.specs.Bodies.{body_in, body_start}
 use Rattle.dump_sections.specs.Index.{Contents}
 use Rattle.dump_sections.specs.Sections.{Section}
 use Rattle.field_lines.specs.Lines.{text_line}
@@ -20,7 +20,7 @@ use Rattle.cell_graphs.specs.Graphs.{graph_of}
 use Rattle.heap_skeleton.specs.Inner.Hearing.{HoldsSections, section_lines}
 use Rattle.heap_skeleton.specs.Inner.Held.{HeapLine, first_lines, heap_lines}
 use Rattle.heap_skeleton.specs.Inner.Shown.{skeleton_with}
-use Rattle.heap_skeleton.specs.Skeletons.{SkeletonMap, body_start, first_places, skeleton_in}
+use Rattle.heap_skeleton.specs.Skeletons.{SkeletonMap, first_places, skeleton_in}
 use Rattle.cell_words.specs.Words.{words_in}
 use Rattle.heap_skeleton.proofs.LaidFacts.{lines-count}
 use Rattle.heap_skeleton.proofs.ShownFacts.{cells_in, map-two, shown-equal}

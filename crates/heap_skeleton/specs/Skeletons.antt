@@ -1,11 +1,11 @@
 -- The skeleton of a heap: what leads where in it, without its texts.
 use Rattle.std.specs.Prelude.{ℕ, ◌==◌, ◌++◌, List, [], ◌∷◌, map, Option, if◌then◌else◌}
 use Rattle.std.specs.List.{list_any}
-use Rattle.std.specs.Option.{option_map, option_map_or}
+use Rattle.std.specs.Option.{option_map}
 use Rattle.cell_graphs.specs.Graphs.{Graph, graph_of}
 use Rattle.cell_records.specs.declared.cells.Kind.{Kind}
 use Rattle.cell_words.specs.Words.{words_list}
-use Rattle.dump_sections.specs.Bodies.{body_in}
+use Rattle.dump_sections.specs.Bodies.{body_in, body_start}
 use Rattle.dump_sections.specs.Index.{Contents, sections_in}
 use Rattle.dump_sections.specs.Sections.{Section}
 use Rattle.heap_cells.specs.Cells.{addresses, kind_of}
@@ -30,10 +30,6 @@ first_places seen [] = []
 first_places seen (line ∷ lines) =
     let later = first_places (seen ++ line.0 ∷ []) lines in
     if list_any (λ address. address == line.0) seen then later else line.1 ∷ later
-
--- the offset at which a section's body begins; a missing section counts as empty
-abbrev pub body_start : Option Section → ℕ
-body_start found = option_map_or (λ s. s.body) found 0
 
 -- where the lines of the cells begin whose bodies are those of these sections
 abbrev pub lines_in : List ℕ → Option Section → Option Section → List ℕ

@@ -1,12 +1,12 @@
 // Gathering heap lines one by one.
-ghost use Rattle.std.specs.Prelude.{◌≡◌, ◌+◌, ◌<◌, ◌≤◌, ◌^◌, ◌∷◌, [], drop, length, OnOk};
+ghost use Rattle.std.specs.Prelude.{◌+◌, ◌<◌, ◌^◌, ◌∷◌, [], length, OnOk};
 ghost use Rattle.dump_io.specs.Lines.{lines_from};
 ghost use Rattle.body_lines.specs.Lines.{lines_at};
 ghost use Rattle.heap_skeleton.specs.Inner.Held.{Gains, heap_lines, IsSmall};
 
 use crate::forms::push_form;
 use crate::held::Held;
-use dump_io::{line_len, line_text};
+use dump_io::{bytes_from, line_len, line_text};
 use std::alloc::AllocError;
 use term_forms::{Enc, heap_line};
 
@@ -25,14 +25,6 @@ fn gather_line(held: &mut Held, enc: Enc, at: u64, raw: &[u8]) -> Result<(), All
     held.push(address, at, first, read)
 }
 
-// The bytes from a place on.
-fn behind(bytes: &[u8], from: usize) -> &[u8]
-    requires { from ≤ length bytes.now }
-    ensures { result.now ≡ drop from bytes.now }
-{
-    &bytes[from..]
-}
-
 /// Gathers the heap lines of a run of lines, the first of which begins at an offset.
 pub(crate) fn gather_run(held: &mut Held, enc: Enc, at: u64, run: &[u8]) -> Result<(), AllocError>
     requires small { IsSmall held.old }
@@ -46,7 +38,7 @@ pub(crate) fn gather_run(held: &mut Held, enc: Enc, at: u64, run: &[u8]) -> Resu
         let size = line_len(rest);
         gather_line(held, enc, line, &rest[..size])?;
         line += size as u64;
-        rest = behind(rest, size);
+        rest = bytes_from(rest, size);
     }
     Ok(())
 }

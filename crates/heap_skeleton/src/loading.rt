@@ -1,12 +1,12 @@
 // Reading the lines of a heap.
-ghost use Rattle.std.specs.Prelude.{◌≡◌, ◌+◌, ◌-◌, ◌<◌, ◌≤◌, length, OnOk, IfOk, IfErr, IfSome};
-ghost use Rattle.dump_io.specs.Dumps.{size_of, IsOpen, ReadsAtMost};
-ghost use Rattle.dump_sections.specs.Bodies.{body_size, section_in};
+ghost use Rattle.std.specs.Prelude.{◌+◌, OnOk, IfOk, IfErr};
+ghost use Rattle.dump_io.specs.Dumps.{ReadsAtMost};
+ghost use Rattle.dump_sections.specs.Bodies.{body_size, section_in, IsPlaceIn};
 ghost use Rattle.dump_sections.specs.Index.{IsBuiltOver};
 ghost use Rattle.heap_cells.specs.Loading.{enc_of};
 ghost use Rattle.heap_skeleton.specs.Loading.{IsSkeletonCauseOf};
 ghost use Rattle.heap_skeleton.specs.Inner.Held.{IsSmall};
-ghost use Rattle.heap_skeleton.specs.Inner.Hearing.{HearsBetween, HearsSection, HoldsSections};
+ghost use Rattle.heap_skeleton.specs.Inner.Hearing.{HearsSection, HoldsSections};
 
 use crate::faults::SkeletonFault;
 use crate::heap_sink::HeapSink;
@@ -17,31 +17,6 @@ use dump_sections::Index;
 use heap_cells::enc_of;
 use std::alloc::Global;
 
-// Gathers the heap lines between two offsets of the open file.
-fn hear_lines<D: Dumps>(
-    dumps: &mut D,
-    from: u64,
-    upto: u64,
-    buffer: &mut Vec<u8>,
-    sink: &mut HeapSink,
-) -> Result<(), SkeletonFault>
-    requires open { IsOpen (D.state dumps.old).now }
-    requires within { upto ≤ size_of (D.state dumps.old).now }
-    requires ordered { from ≤ upto }
-    requires small { IsSmall sink.old.held }
-    ensures reads { ReadsAtMost (D.state dumps.old) (D.state dumps.new) (upto - from) }
-    ensures fault { IfErr result (IsSkeletonCauseOf (D.state dumps.old) (D.state dumps.new)) }
-    ensures small { OnOk result (IsSmall sink.new.held) }
-    ensures hears { OnOk result (HearsBetween sink.old sink.new (D.state dumps.old).now from upto) }
-{
-    match hear_whole_lines(dumps, from, upto, buffer, sink) {
-        Ok(()) => Ok(()),
-        Err(WholeLinesFault::Read) => Err(SkeletonFault::Read),
-        Err(WholeLinesFault::Memory) => Err(SkeletonFault::Memory),
-        Err(WholeLinesFault::Stopped(_)) => Err(SkeletonFault::Memory),
-    }
-}
-
 // Gathers the heap lines of the section at a place. A missing section counts as empty.
 fn hear_section<D: Dumps>(
     dumps: &mut D,
@@ -51,7 +26,7 @@ fn hear_section<D: Dumps>(
     sink: &mut HeapSink,
 ) -> Result<(), SkeletonFault>
     requires over { IsBuiltOver (D.state dumps.old).now index.now }
-    requires place { IfSome place (λ i. i < length index.now.headers) }
+    requires place { IsPlaceIn index.now place }
     requires small { IsSmall sink.old.held }
     ensures reads { ReadsAtMost (D.state dumps.old) (D.state dumps.new)
         (body_size (section_in index.now place)) }
@@ -60,11 +35,13 @@ fn hear_section<D: Dumps>(
     ensures hears { OnOk result (HearsSection sink.old sink.new
         (D.state dumps.old).now (section_in index.now place)) }
 {
-    let Some(i) = place else {
-        return Ok(());
-    };
-    let section = index.section(i);
-    hear_lines(dumps, section.body, section.end, buffer, sink)
+    let (from, upto) = index.body_at(place);
+    match hear_whole_lines(dumps, from, upto, buffer, sink) {
+        Ok(()) => Ok(()),
+        Err(WholeLinesFault::Read) => Err(SkeletonFault::Read),
+        Err(WholeLinesFault::Memory) => Err(SkeletonFault::Memory),
+        Err(WholeLinesFault::Stopped(_)) => Err(SkeletonFault::Memory),
+    }
 }
 
 // The heap lines of the sections with a heap and with the literals, and how many of them are those of the heap.
@@ -76,8 +53,8 @@ pub(crate) fn read_lines<D: Dumps>(
     literals: Option<usize>,
 ) -> Result<(Held, u32), SkeletonFault>
     requires over { IsBuiltOver (D.state dumps.old).now index.now }
-    requires heap { IfSome heap (λ i. i < length index.now.headers) }
-    requires literals { IfSome literals (λ i. i < length index.now.headers) }
+    requires heap { IsPlaceIn index.now heap }
+    requires literals { IsPlaceIn index.now literals }
     ensures reads { ReadsAtMost (D.state dumps.old) (D.state dumps.new)
         (body_size (section_in index.now heap) + body_size (section_in index.now literals)) }
     ensures fault { IfErr result (IsSkeletonCauseOf (D.state dumps.old) (D.state dumps.new)) }

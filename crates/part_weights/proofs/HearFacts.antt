@@ -1,9 +1,10 @@
 -- What is heard of the roots of a process, one body after another.
-use Rattle.std.proofs.Common.{◌≡◌, ℕ, List, [], ◌++◌, None, Result, Ok, Err, refl, sym, ◌∙◌, ap, subst, append_assoc, append-nil}
-use Rattle.std.specs.Prelude.{OnOk}
+use Rattle.std.proofs.Common.{◌≡◌, ℕ, List, [], ◌++◌, Option, refl, sym, ◌∙◌, ap, ap₂, subst, append_assoc, append-nil}
+use Rattle.std.specs.List.{between}
 use Rattle.std.proofs.lemmas.List.Concat.{flat_map-append}
 use Rattle.body_lines.specs.Hearing.{HearsBody}
 use Rattle.dump_io.specs.Dumps.{Now}
+use Rattle.dump_sections.specs.Bodies.{body_in, body_start}
 use Rattle.dump_sections.specs.Sections.{Section}
 use Rattle.root_lines.specs.Placed.{placed_roots}
 use Rattle.root_views.specs.Roots.{BodyRoot}
@@ -11,9 +12,9 @@ use Rattle.root_views.specs.Sections.{root_section}
 use Rattle.root_views.specs.declared.kinds.RootKind.{RootKind}
 use Rattle.root_views.specs.declared.kinds.RootKind.TheVariants.{Stack, Dict, Mail}
 use Rattle.cell_parts.specs.Parts.{ArePartsOf, CellParts, PartElement}
-use Rattle.part_weights.specs.Roots.{all_roots, root_elements, roots_at, roots_elements}
+use Rattle.part_weights.specs.Roots.{root_elements, roots_at, roots_elements}
 use Rattle.part_weights.specs.declared.root_parts.RootParts.{RootParts}
-use Rattle.part_weights.specs.Inner.Hearing.{Gains, GainsAll, GainsBetween, GainsElements, GainsSection}
+use Rattle.part_weights.specs.Inner.Hearing.{Gains, GainsAll, GainsElements, GainsSection}
 
 -- elements behind elements
 GainsElements-then : (a b c : CellParts) (xs ys : List PartElement) → GainsElements a b xs → GainsElements b c ys → GainsElements a c (xs ++ ys)
@@ -23,12 +24,14 @@ GainsElements-then a b c xs ys first second elements are = subst (λ l. AreParts
 Gains-none : (roots : RootParts) → Gains roots roots []
 Gains-none roots = record { skeleton = refl; parts = λ elements are. subst (λ l. ArePartsOf l roots.parts) (sym (append-nil elements)) are }
 
--- what a sink heard of a body
-pub between-gains : (old new : RootParts) (now : Now) (kind : RootKind) (from upto : ℕ) → HearsBody Gains (placed_roots kind) old new from upto now → GainsBetween now kind from upto old new
-between-gains old new now kind from upto hears =
+-- what a sink heard of the body of a section
+pub section-gains : (old new : RootParts) (now : Now) (kind : RootKind) (from upto : ℕ) (found : Option Section) → from ≡ body_start found → ((dump : List ℕ) → between from upto dump ≡ body_in dump found)
+    → HearsBody Gains (placed_roots kind) old new from upto now → GainsSection now kind found old new
+section-gains old new now kind from upto found start body hears =
     let gains = hears.heard.later old [] (Gains-none old) in record {
       skeleton = gains.skeleton;
-      parts = λ dump is. subst (λ l. GainsElements old.parts new.parts (roots_elements old.skeleton.now.addresses l)) (hears.are dump is) gains.parts;
+      parts = λ dump is.
+          subst (λ l. GainsElements old.parts new.parts (roots_elements old.skeleton.now.addresses l)) (hears.are dump is ∙ ap₂ (placed_roots kind) start (body dump)) gains.parts;
     }
 
 -- the elements of roots behind roots
@@ -50,8 +53,3 @@ all-gains a b c d now now' now'' sections pid same same' stack dict mail = recor
       subst (GainsElements a.parts d.parts) (sym (roots-append addresses (first ++ second) third ∙ ap (λ l. l ++ roots_elements addresses third) (roots-append addresses first second)))
       (GainsElements-then a.parts c.parts d.parts _ _ (GainsElements-then a.parts b.parts c.parts _ _ (stack.parts dump is) dicts) mails);
 }
-
--- a section that isn't there
-pub none-gains : {T E : Type 0} (result : Result T E) (old new : RootParts) (now : Now) (kind : RootKind) → OnOk result (GainsBetween now kind 0 0 old new) → OnOk result (GainsSection now kind None old new)
-none-gains (Ok done) old new now kind gains = record { skeleton = gains.skeleton; parts = λ dump is. gains.parts dump is }
-none-gains (Err fault) old new now kind gains = gains

@@ -1,5 +1,5 @@
 -- The parts that alone hold cells, by their numbers and as rows.
-use Rattle.std.proofs.Common.{◌≡◌, ℕ, zero, suc, ◌+◌, ◌<◌, ◌≤◌, Bool, true, false, List, [], ◌∷◌, ◌++◌, length, map, Option, None, Some, if◌then◌else◌, refl, sym, ◌∙◌, ap, subst, append_assoc, arith, length-append, nat_lt}
+use Rattle.std.proofs.Common.{◌≡◌, ℕ, ◌+◌, ◌<◌, ◌≤◌, Bool, true, false, List, [], ◌∷◌, ◌++◌, length, map, refl, sym, ◌∙◌, ap, append_assoc, arith, length-append, nat_lt}
 use Rattle.std.specs.Prelude.{slice_index_or, filter, All}
 use Rattle.std.specs.List.{enumerate_from, filter_map, zip}
 use Rattle.std.proofs.lemmas.List.Elements.{All-cons}
@@ -7,10 +7,9 @@ use Rattle.cell_parts.specs.Parts.{CellPart}
 use Rattle.heap_skeleton.specs.Skeletons.{SkeletonMap}
 use Rattle.heap_weights.specs.declared.shares.Weight.{Weight}
 use Rattle.size_order.specs.Sorting.{most_first, put_row}
-use Rattle.part_weights.specs.Weights.{Row, row_of}
-use Rattle.part_weights.specs.declared.held_parts.HeldPart.{HeldPart}
+use Rattle.part_weights.specs.Weights.{row_of}
 use Rattle.part_weights.specs.Inner.Held.{held_part, held_parts}
-use Rattle.part_weights.specs.Inner.Shown.{no_part, row_at, rows_at}
+use Rattle.part_weights.specs.Inner.Shown.{no_part, rows_at}
 
 -- ---- the order of sizes
 

@@ -1,26 +1,22 @@
 -- What parts alone hold, as it is kept and as the definitions say.
-use Rattle.std.proofs.Common.{◌≡◌, ℕ, zero, suc, ◌+◌, ◌<◌, ◌==◌, Bool, true, false, List, [], ◌∷◌, ◌++◌, length, map, Option, None, Some, refl, sym, ◌∙◌, ap, ap₂, subst, arith}
-use Rattle.std.specs.Prelude.{slice_get, slice_index_or, option_map, unwrap_or}
-use Rattle.std.specs.List.{position, zip}
+use Rattle.std.proofs.Common.{◌≡◌, ℕ, zero, suc, ◌+◌, ◌==◌, Bool, true, false, List, [], ◌∷◌, ◌++◌, length, map, Option, refl, sym, ◌∙◌, ap, ap₂}
+use Rattle.std.specs.Prelude.{slice_index_or, option_map}
+use Rattle.std.specs.List.{position}
 use Rattle.std.proofs.lemmas.List.{length-map}
-use Rattle.std.proofs.lemmas.Option.{get_or_from_slice_get, slice_get-get_or}
 use Rattle.cell_graphs.specs.Counts.{count_below, one_if}
 use Rattle.cell_graphs.specs.Graphs.{Graph}
-use Rattle.cell_parts.specs.Parts.{ArePartsOf, CellPart, CellParts, PartElement, parts_made}
-use Rattle.cell_records.specs.declared.cells.Kind.{Kind}
+use Rattle.cell_parts.specs.Parts.{ArePartsOf, CellPart, CellParts, PartElement}
 use Rattle.heap_skeleton.specs.Skeletons.{SkeletonMap}
 use Rattle.heap_weights.specs.Holders.{holder_among, is_held}
 use Rattle.heap_weights.specs.Parts.{holder_of, number_if, reached_at}
-use Rattle.heap_weights.specs.Shares.{AreShares, weight_below, weight_of, weights_from, words_below, words_if}
+use Rattle.heap_weights.specs.Shares.{weight_below, weights_from, words_below, words_if}
 use Rattle.heap_weights.specs.declared.holders.Holder.{Holder}
-use Rattle.heap_weights.specs.declared.holders.Holder.TheVariants.{Several}
 use Rattle.heap_weights.specs.declared.shares.Shares.{Shares}
 use Rattle.heap_weights.specs.declared.shares.Weight.{Weight}
 use Rattle.size_order.specs.Sorting.{most_first}
-use Rattle.part_weights.specs.Weights.{Row, Weighing, cell_weighing, row_of, rows_of, weighing}
-use Rattle.part_weights.specs.declared.held_parts.HeldPart.{HeldPart}
+use Rattle.part_weights.specs.Weights.{cell_weighing, rows_of, weighing}
 use Rattle.part_weights.specs.Inner.Held.{held_parts, sorted_parts}
-use Rattle.part_weights.specs.Inner.Shown.{AreParts, no_part, row_at, rows_at, weighing_with}
+use Rattle.part_weights.specs.Inner.Shown.{AreParts, row_at, rows_at, weighing_with}
 use Rattle.part_weights.proofs.HeldFacts.{most_first-map, rows-held}
 
 -- ---- one part

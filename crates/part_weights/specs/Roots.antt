@@ -1,7 +1,7 @@
 -- The elements among the roots of a process that are weighed. Offsets are of the file.
 use Rattle.std.specs.Prelude.{ℕ, ◌==◌, List, map, ◌++◌, Option, None}
 use Rattle.std.specs.List.{flat_map, position}
-use Rattle.dump_sections.specs.Bodies.{body_in}
+use Rattle.dump_sections.specs.Bodies.{body_in, body_start}
 use Rattle.dump_sections.specs.Sections.{Section}
 use Rattle.term_forms.specs.Elements.{Element, Ref}
 use Rattle.root_views.specs.Roots.{BodyRoot, term_in}
@@ -9,7 +9,6 @@ use Rattle.root_views.specs.Sections.{root_section}
 use Rattle.root_views.specs.declared.kinds.RootKind.{RootKind}
 use Rattle.root_views.specs.declared.kinds.RootKind.TheVariants.{Stack, Dict, Mail}
 use Rattle.root_lines.specs.Placed.{placed_roots}
-use Rattle.heap_skeleton.specs.Skeletons.{body_start}
 use Rattle.cell_parts.specs.Parts.{PartElement}
 
 -- the cell to which an element leads, if one of these addresses is that of its reference

@@ -1,7 +1,6 @@
 -- What the parts of a heap alone hold, and what all of them reach. Sums of words are exact.
 use Rattle.std.specs.Prelude.{ℕ, ◌==◌, true, nat_lt, List, map, filter, length, Option, None, Some, option_map, slice_index_or}
 use Rattle.std.specs.List.{position, zip}
-use Rattle.cell_graphs.specs.Graphs.{Graph}
 use Rattle.cell_parts.specs.Elements.{cell_elements}
 use Rattle.cell_parts.specs.Parts.{CellPart, PartElement, parts_made}
 use Rattle.cell_records.specs.declared.cells.Kind.{Kind}

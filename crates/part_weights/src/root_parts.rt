@@ -1,7 +1,7 @@
 // The parts that the roots of a process make.
-ghost use Rattle.std.specs.Prelude.{◌≡◌, ◌-◌, ◌<◌, ◌≤◌, length, IfErr, IfOk, IfSome, OnOk};
-ghost use Rattle.dump_io.specs.Dumps.{size_of, IfTold, IsOpen, ReadsAtMost};
-ghost use Rattle.dump_sections.specs.Bodies.{body_size, section_in};
+ghost use Rattle.std.specs.Prelude.{◌≡◌, ◌<◌, length, IfErr, IfOk, IfSome, OnOk};
+ghost use Rattle.dump_io.specs.Dumps.{IfTold, ReadsAtMost};
+ghost use Rattle.dump_sections.specs.Bodies.{body_size, section_in, IsPlaceIn};
 ghost use Rattle.dump_sections.specs.Index.{sections_in, IsBuiltOver};
 ghost use Rattle.dump_sections.specs.Loading.{bodies_length};
 ghost use Rattle.term_forms.specs.Seen.{element};
@@ -10,7 +10,7 @@ ghost use Rattle.root_views.specs.Sections.{root_bodies, root_section};
 ghost use Rattle.cell_parts.specs.Parts.{ArePartsOf};
 ghost use Rattle.part_weights.specs.Loading.{IsWeightsCauseOf};
 ghost use Rattle.part_weights.specs.Roots.{all_roots, lead_to, roots_elements};
-ghost use Rattle.part_weights.specs.Inner.Hearing.{Gains, GainsAll, GainsBetween, GainsSection, IsReady};
+ghost use Rattle.part_weights.specs.Inner.Hearing.{Gains, GainsAll, GainsSection, IsReady};
 ghost use Rattle.part_weights.specs.Inner.Shown.{IsOver};
 
 use crate::faults::WeightsFault;
@@ -55,29 +55,6 @@ impl EachRoot for RootParts<'_> {
     }
 }
 
-// Hears the roots between two offsets of the open file.
-fn hear_between<D: Dumps>(
-    dumps: &mut D,
-    from: u64,
-    upto: u64,
-    kind: RootKind,
-    buffer: &mut Vec<u8>,
-    roots: &mut RootParts<'_>,
-) -> Result<(), RootsFault>
-    requires open { IsOpen (D.state dumps.old).now }
-    requires within { upto ≤ size_of (D.state dumps.old).now }
-    requires ordered { from ≤ upto }
-    requires ready { IsReady roots.old }
-    ensures reads { ReadsAtMost (D.state dumps.old) (D.state dumps.new) (upto - from) }
-    ensures fault { IfErr result (IsRootsCauseOf (D.state dumps.old) (D.state dumps.new)) }
-    ensures ready { OnOk result (IsReady roots.new) }
-    ensures gains { OnOk result (GainsBetween (D.state dumps.old).now kind
-        from upto roots.old roots.new) }
-{
-    hear_roots(dumps, from, upto, kind, buffer, roots)?;
-    Ok(())
-}
-
 // Hears the roots in the section at `place`. A missing section has none.
 fn hear_section<D: Dumps>(
     dumps: &mut D,
@@ -88,7 +65,7 @@ fn hear_section<D: Dumps>(
     roots: &mut RootParts<'_>,
 ) -> Result<(), RootsFault>
     requires over { IsBuiltOver (D.state dumps.old).now index.now }
-    requires place { IfSome place (λ i. i < length index.now.headers) }
+    requires place { IsPlaceIn index.now place }
     requires ready { IsReady roots.old }
     ensures reads { ReadsAtMost (D.state dumps.old) (D.state dumps.new)
         (body_size (section_in index.now place)) }
@@ -97,13 +74,9 @@ fn hear_section<D: Dumps>(
     ensures gains { OnOk result (GainsSection (D.state dumps.old).now kind
         (section_in index.now place) roots.old roots.new) }
 {
-    match place {
-        Some(i) => {
-            let section = index.section(i);
-            hear_between(dumps, section.body, section.end, kind, buffer, roots)
-        }
-        None => hear_between(dumps, 0, 0, kind, buffer, roots),
-    }
+    let (from, upto) = index.body_at(place);
+    hear_roots(dumps, from, upto, kind, buffer, roots)?;
+    Ok(())
 }
 
 // Hears the roots of a kind of a process.

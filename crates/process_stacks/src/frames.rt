@@ -1,12 +1,12 @@
 // The frames among the lines of a stack.
-ghost use Rattle.std.specs.Prelude.{◌≡◌, ◌≤◌, [], ◌∷◌, drop, length, OnOk, IfErr};
+ghost use Rattle.std.specs.Prelude.{◌≡◌, [], ◌∷◌, OnOk, IfErr};
 ghost use Rattle.std.specs.Option.{option_copied};
 ghost use Rattle.dump_io.specs.Lines.{raw_lines};
 ghost use Rattle.process_stacks.specs.Inner.Hearing.{info_of, raw_infos, IsOpen, StopsTaking, StopsWithin, Takes};
 
 use crate::frame_sink::{FrameSink, Stop};
 use crate::place_lines::push_line;
-use dump_io::{line_len, line_text, split_at_colon};
+use dump_io::{bytes_from, line_len, line_text, split_at_colon};
 
 // The info of a line of a stack, if it has one.
 fn info_of(text: &[u8]) -> Option<&[u8]>
@@ -49,14 +49,6 @@ fn take_line(sink: &mut FrameSink, raw: &[u8]) -> Result<(), Stop>
     }
 }
 
-// The bytes from a place on.
-fn behind(bytes: &[u8], from: usize) -> &[u8]
-    requires { from ≤ length bytes.now }
-    ensures { result.now ≡ drop from bytes.now }
-{
-    &bytes[from..]
-}
-
 /// Takes the infos of a run of lines as frames, until no more are wanted.
 pub(crate) fn take_frames(sink: &mut FrameSink, run: &[u8]) -> Result<(), Stop>
     requires { IsOpen sink.old }
@@ -68,7 +60,7 @@ pub(crate) fn take_frames(sink: &mut FrameSink, run: &[u8]) -> Result<(), Stop>
     while !rest.is_empty() {
         let size = line_len(rest);
         take_line(sink, &rest[..size])?;
-        rest = behind(rest, size);
+        rest = bytes_from(rest, size);
     }
     Ok(())
 }

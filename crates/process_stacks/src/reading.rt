@@ -1,14 +1,13 @@
 // Reading the stacks of processes, one after another.
-ghost use Rattle.std.specs.Prelude.{◌≡◌, ◌-◌, ◌<◌, ◌≤◌, ◌++◌, [], ◌∷◌, codes, length, map, IfOk, IfErr, OnOk};
-ghost use Rattle.std.specs.List.{between};
-ghost use Rattle.dump_io.specs.Dumps.{size_of, IfTold, IsOpen, ReadsAtMost};
-ghost use Rattle.dump_sections.specs.Bodies.{body_in, body_size, section_in};
+ghost use Rattle.std.specs.Prelude.{◌≡◌, ◌<◌, ◌++◌, [], ◌∷◌, codes, length, map, IfOk, IfErr, OnOk};
+ghost use Rattle.dump_io.specs.Dumps.{IfTold, ReadsAtMost};
+ghost use Rattle.dump_sections.specs.Bodies.{body_in, body_size, section_in, IsPlaceIn};
 ghost use Rattle.dump_sections.specs.Index.{IsBuiltOver};
 ghost use Rattle.section_rows.specs.Rows.{row_at};
 ghost use Rattle.process_stacks.specs.Groups.{stand_of};
 ghost use Rattle.process_stacks.specs.Rows.{stack_section, stacks_length};
 ghost use Rattle.process_stacks.specs.Stacks.{IsStackCauseOf};
-ghost use Rattle.process_stacks.specs.Inner.Reading.{AreStacksOf, HasFrames, IsWithin};
+ghost use Rattle.process_stacks.specs.Inner.Reading.{AreStacksOf, HasFrames};
 
 use crate::faults::StackFault;
 use crate::frame_sink::{FrameSink, Stop};
@@ -24,22 +23,23 @@ use std::alloc::Global;
 // How many infos of a stack are its frames.
 const FRAMES: usize = 20;
 
-// Appends the lines of the frames of a stack whose body lies between two offsets.
-fn hear_frames<D: Dumps>(
+// Appends the lines of the frames of the stack at a place. A process without a stack has none.
+fn read_frames<D: Dumps>(
     dumps: &mut D,
-    from: u64,
-    upto: u64,
+    index: &Index,
+    place: Option<usize>,
     lines: Vec<u8>,
     buffer: &mut Vec<u8>,
 ) -> Result<Vec<u8>, StackFault>
-    requires open { IsOpen (D.state dumps.old).now }
-    requires within { upto ≤ size_of (D.state dumps.old).now }
-    requires ordered { from ≤ upto }
-    ensures reads { ReadsAtMost (D.state dumps.old) (D.state dumps.new) (upto - from) }
+    requires over { IsBuiltOver (D.state dumps.old).now index.now }
+    requires place { IsPlaceIn index.now place }
+    ensures reads { ReadsAtMost (D.state dumps.old) (D.state dumps.new)
+        (body_size (section_in index.now place)) }
     ensures fault { IfErr result (IsStackCauseOf (D.state dumps.old) (D.state dumps.new)) }
     ensures frames { IfOk result (λ all. IfTold (D.state dumps.old).now
-        (λ dump. HasFrames (between from upto dump) lines.items all.items)) }
+        (λ dump. HasFrames (body_in dump (section_in index.now place)) lines.items all.items)) }
 {
+    let (from, upto) = index.body_at(place);
     let mut sink = FrameSink {
         left: FRAMES,
         lines,
@@ -53,34 +53,11 @@ fn hear_frames<D: Dumps>(
     }
 }
 
-// Appends the lines of the frames of the stack at a place. A process without a stack has none.
-fn read_frames<D: Dumps>(
-    dumps: &mut D,
-    index: &Index,
-    place: Option<usize>,
-    lines: Vec<u8>,
-    buffer: &mut Vec<u8>,
-) -> Result<Vec<u8>, StackFault>
-    requires over { IsBuiltOver (D.state dumps.old).now index.now }
-    requires within { IsWithin index.now place }
-    ensures reads { ReadsAtMost (D.state dumps.old) (D.state dumps.new)
-        (body_size (section_in index.now place)) }
-    ensures fault { IfErr result (IsStackCauseOf (D.state dumps.old) (D.state dumps.new)) }
-    ensures frames { IfOk result (λ all. IfTold (D.state dumps.old).now
-        (λ dump. HasFrames (body_in dump (section_in index.now place)) lines.items all.items)) }
-{
-    let Some(i) = place else {
-        return Ok(lines);
-    };
-    let section = index.section(i);
-    hear_frames(dumps, section.body, section.end, lines, buffer)
-}
-
 // Where the stack of the process at a place is.
 fn stack_place(stacks: &FirstSections<'_>, procs: &StackProcs, p: usize) -> Option<usize>
     requires process { p < length procs.now }
     requires tag { stacks.now.tag ≡ codes "proc_stack" }
-    ensures within { IsWithin stacks.now.index result }
+    ensures place { IsPlaceIn stacks.now.index result }
     ensures section { section_in stacks.now.index result
         ≡ stack_section stacks.now.index (row_at procs.now p) }
 {

@@ -1,5 +1,5 @@
 // Hearing the roots of lines.
-ghost use Rattle.std.specs.Prelude.{◌≡◌, ◌+◌, ◌-◌, ◌<◌, ◌≤◌, ◌^◌, ◌||◌, nat_le, drop, length, OnOk};
+ghost use Rattle.std.specs.Prelude.{◌≡◌, ◌+◌, ◌-◌, ◌<◌, ◌^◌, ◌||◌, nat_le, length, OnOk};
 ghost use Rattle.body_lines.specs.Lines.{lines_at};
 ghost use Rattle.root_lines.specs.Placed.{placed_roots};
 ghost use Rattle.root_lines.specs.Inner.Hearing.{roots_of_lines, IsReady, Takes};
@@ -7,7 +7,7 @@ ghost use Rattle.root_lines.specs.Inner.Hearing.{roots_of_lines, IsReady, Takes}
 use crate::counting::root_count;
 use crate::keeping::keep_line;
 use crate::root_sink::RootSink;
-use dump_io::line_len;
+use dump_io::{bytes_from, line_len};
 use std::alloc::AllocError;
 
 // How many of the next roots are passed over before one is kept.
@@ -61,14 +61,6 @@ fn hear_line(sink: &mut RootSink, at: u64, raw: &[u8]) -> Result<(), AllocError>
     add_count(sink, count)
 }
 
-// The bytes from a place on.
-fn behind(bytes: &[u8], from: usize) -> &[u8]
-    requires { from ≤ length bytes.now }
-    ensures { result.now ≡ drop from bytes.now }
-{
-    &bytes[from..]
-}
-
 // Hears the lines of a run one by one.
 fn hear_lines(sink: &mut RootSink, at: u64, run: &[u8]) -> Result<(), AllocError>
     requires ready { IsReady sink.old }
@@ -83,7 +75,7 @@ fn hear_lines(sink: &mut RootSink, at: u64, run: &[u8]) -> Result<(), AllocError
         let size = line_len(rest);
         hear_line(sink, line, &rest[..size])?;
         line += size as u64;
-        rest = behind(rest, size);
+        rest = bytes_from(rest, size);
     }
     Ok(())
 }

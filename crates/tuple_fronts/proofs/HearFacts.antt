@@ -1,16 +1,18 @@
 -- What is heard of the lines of cells.
-use Rattle.std.proofs.Common.{◌≡◌, ℕ, List, [], ◌++◌, take, drop, map, None, Option, refl, sym, ◌∙◌, ap, subst}
+use Rattle.std.proofs.Common.{◌≡◌, ℕ, List, [], ◌++◌, take, drop, map, None, Option, refl, sym, ◌∙◌, ap, ap₂, subst}
 use Rattle.std.specs.Prelude.{Result, Ok, Err, IfErr}
+use Rattle.std.specs.List.{between}
 use Rattle.binary_payloads.specs.declared.enc.Enc.{Enc}
 use Rattle.body_lines.specs.Hearing.{Hears, HearsBody, StopsAmong}
 use Rattle.body_lines.specs.Lines.{lines_at}
 use Rattle.dump_io.specs.Dumps.{Now}
 use Rattle.dump_io.specs.Lines.{Line}
+use Rattle.dump_sections.specs.Bodies.{body_in, body_start}
 use Rattle.dump_sections.specs.Sections.{Section}
 use Rattle.heap_skeleton.specs.Skeletons.{SkeletonMap}
 use Rattle.tuple_fronts.specs.declared.front_sink.FrontSink.{FrontSink}
 use Rattle.tuple_fronts.specs.declared.kept.Kept.{Kept}
-use Rattle.tuple_fronts.specs.Inner.Hearing.{HearsBetween, HearsSection, IsSplitAt, KeepsSection, KeepsSections, TakesFronts, all_known, known_of, left_behind, section_lines}
+use Rattle.tuple_fronts.specs.Inner.Hearing.{HearsSection, IsSplitAt, KeepsSection, KeepsSections, TakesFronts, all_known, known_of, left_behind, section_lines}
 use Rattle.tuple_fronts.specs.Inner.Kept.{IsKept, Keeps}
 use Rattle.tuple_fronts.proofs.KeptFacts.{Keeps-none, Keeps-then}
 use Rattle.tuple_fronts.proofs.RunFacts.{known-append, left-append}
@@ -45,16 +47,14 @@ pub run-stops : {E : Type 0} (r : Result (Unit {0}) E) (old new : FrontSink) (li
 run-stops (Ok u) old new lines = tt
 run-stops (Err e) old new lines = record { heard = []; rest = lines; parts = refl; stopped = record { later = λ first earlier had. tt } }
 
-pub between-hears : (old new : FrontSink) (from upto : ℕ) (now : Now) → HearsBody TakesFronts lines_at old new from upto now → HearsBetween old new now from upto
-between-hears old new from upto now body = record {
-  lines = body.lines;
-  takes = body.heard.later old [] (takes-none old);
-  are = body.are;
+-- what a sink heard of the body of a section
+pub section-hears : (old new : FrontSink) (now : Now) (from upto : ℕ) (found : Option Section) → from ≡ body_start found → ((dump : List ℕ) → between from upto dump ≡ body_in dump found)
+    → HearsBody TakesFronts lines_at old new from upto now → HearsSection old new now found
+section-hears old new now from upto found start body heard = record {
+  lines = heard.lines;
+  takes = heard.heard.later old [] (takes-none old);
+  are = λ dump is. heard.are dump is ∙ ap₂ lines_at start (body dump);
 }
-
--- no section, and so no lines
-pub section-none : (old : FrontSink) (now : Now) → HearsSection old old now None
-section-none old now = record { lines = []; takes = takes-none old; are = λ dump is. refl }
 
 -- fronts of all cells are kept, also of those whose lines weren't found
 pub section-keeps : (first last : FrontSink) (new : Kept) (now : Now) (found : Option Section) (cells : List ℕ) → first.cells.now ≡ cells → HearsSection first last now found

@@ -9,18 +9,20 @@ use Rattle.std.proofs.lemmas.Bool.{ltb-true, ltb-false}
 use Rattle.std.proofs.lemmas.List.{get_or-drop, get_or-take, length-map, length-take, length-drop, map-append, take-append-drop}
 use Rattle.std.proofs.lemmas.List.Elements.{All-cons, All-head, All-tail}
 use Rattle.std.proofs.lemmas.Option.{get_or_from_slice_get}
+use Rattle.std.proofs.Math.Seq.{drop-append_seam}
 use Rattle.std.proofs.lemmas.Map.Keys.{below_from_sorted, sorted_from_strictly_increasing, sorted_tail}
 use Rattle.binary_payloads.specs.declared.enc.Enc.{Enc}
 use Rattle.dump_io.specs.Dumps.{Now, told}
 use Rattle.dump_io.specs.Lines.{Line, raw_lines, text_of}
 use Rattle.dump_io.specs.Laws.Lines.{AreLines-raw}
-use Rattle.dump_sections.specs.Bodies.{body_in}
+use Rattle.dump_io.specs.Laws.Lists.{drop-next}
+use Rattle.dump_sections.specs.Bodies.{body_in, body_start}
 use Rattle.dump_sections.specs.Index.{Contents}
 use Rattle.dump_sections.specs.Sections.{Section}
 use Rattle.heap_cells.specs.Cells.{Cell, addresses, first_cells, kind_of, spelled_cell}
 use Rattle.heap_cells.specs.HeapMap.{form_at}
 use Rattle.heap_cells.specs.Loading.{enc_of}
-use Rattle.heap_skeleton.specs.Skeletons.{SkeletonMap, body_start, first_places, heap_in, skeleton_in}
+use Rattle.heap_skeleton.specs.Skeletons.{SkeletonMap, first_places, heap_in, skeleton_in}
 use Rattle.term_forms.specs.Elements.{Element}
 use Rattle.term_forms.specs.Forms.{HeapForm}
 use Rattle.term_forms.specs.Words.{led_of}
@@ -195,12 +197,6 @@ same-length enc base at seen (raw ∷ raws) = by (led_of (text_of raw)) (λ seen
           | false ↦ ap suc (later (seen ++ led.0 ∷ []))
         ]
 
-drop-next : {X : Type 0} (xs : List X) (i : ℕ) (x : X) (rest : List X) → drop i xs ≡ x ∷ rest → (slice_get xs i ≡ Some x) × (drop (suc i) xs ≡ rest)
-drop-next [] zero x rest is = let no : [] ≡ x ∷ rest = is in cc
-drop-next [] (suc i) x rest is = let no : [] ≡ x ∷ rest = is in cc
-drop-next (y ∷ ys) zero x rest is = let same : y ∷ ys ≡ x ∷ rest = is in let first : y ≡ x = cc in let later : ys ≡ rest = cc in (ap Some first, later)
-drop-next (y ∷ ys) (suc i) x rest is = drop-next ys i x rest is
-
 -- cells and their lines that stand behind as many
 are-at : (s : SkeletonMap) (all : List Cell) (number : ℕ) (cells moreCells : List Cell) (lines moreLines : List ℕ) → length cells ≡ length lines → drop number all ≡ cells ++ moreCells
     → drop number s.lines ≡ lines ++ moreLines → AreAt s (form_at all) number cells lines
@@ -220,10 +216,6 @@ kinds-at [] zero = refl
 kinds-at [] (suc n) = refl
 kinds-at (c ∷ cells) zero = refl
 kinds-at (c ∷ cells) (suc n) = kinds-at cells n
-
-drop-front : {X : Type 0} (xs ys : List X) → drop (length xs) (xs ++ ys) ≡ ys
-drop-front [] ys = refl
-drop-front (x ∷ xs) ys = drop-front xs ys
 
 -- ---- all fronts
 
@@ -263,8 +255,8 @@ kept-fronts s now dump index heap literals cells kept is_told skeleton rising in
     let own_at : AreAt s form 0 own_cells own_lines = are-at s all 0 own_cells other_cells own_lines other_lines same_own all_are lines_are in
     let others_at : AreAt s form (length own_cells) other_cells other_lines =
     are-at s all (length own_cells) other_cells [] other_lines [] same_others
-    (ap (drop (length own_cells)) all_are ∙ drop-front own_cells other_cells ∙ sym (append-nil other_cells))
-    (ap₂ drop same_own lines_are ∙ drop-front own_lines other_lines ∙ sym (append-nil other_lines)) in
+    (ap (drop (length own_cells)) all_are ∙ drop-append_seam own_cells other_cells ∙ sym (append-nil other_cells))
+    (ap₂ drop same_own lines_are ∙ drop-append_seam own_lines other_lines ∙ sym (append-nil other_lines)) in
     let within = within-sorted 0 (length s.addresses) cells (sorted_from_strictly_increasing cells rising) inside (λ i d _. omega arith) in
     let own_numbers : IsWithin 0 s.own (take keeps.count cells) = within-take 0 (length s.addresses) s.own keeps.count cells within (split-low s.own cells keeps.count keeps.split) in
     let other_numbers : IsWithin s.own (length s.addresses) (drop keeps.count cells) =

@@ -4,6 +4,7 @@ use Rattle.std.proofs.lemmas.Bool.{ne_eqb}
 use Rattle.std.specs.Prelude.{slice_range, slice_index, slice_index_or, unwrap_or, IsSome, slice_get}
 use Rattle.std.specs.Option.{option_map}
 use Rattle.std.proofs.lemmas.List.{length-map, length-take, map-append, get_or-drop, get_or-take}
+use Rattle.std.proofs.Math.Seq.{drop-append_seam, take-append_seam}
 use Rattle.std.proofs.lemmas.Option.{slice_get-get_or, slice_get-map}
 use Rattle.term_forms.specs.Elements.{Element, Nil}
 use Rattle.term_forms.specs.Reading.{whole_of}
@@ -53,19 +54,11 @@ laid-from at (l ∷ lists) (suc i) inside =
     let start = start-next at (at + length l) (ends_from (at + length l) lists) i in
     (omega (arith, rest.0, start), omega (arith, rest.1, length-append l (joined lists)))
 
-drop-front : {X : Type 0} (xs ys : List X) → drop (length xs) (xs ++ ys) ≡ ys
-drop-front [] ys = refl
-drop-front (x ∷ xs) ys = drop-front xs ys
-
-take-front : {X : Type 0} (xs ys : List X) → take (length xs) (xs ++ ys) ≡ xs
-take-front [] ys = refl
-take-front (x ∷ xs) ys = ap (λ l. x ∷ l) (take-front xs ys)
-
 -- the part behind what stands before it
 range-front : {X : Type 0} (before list rest : List X) → slice_range (before ++ (list ++ rest)) (length before) (length before + length list) ≡ list
 range-front before list rest =
     let e : length before + length list - length before ≡ length list = omega arith in
-    ap₂ take e (drop-front before (list ++ rest)) ∙ take-front list rest
+    ap₂ take e (drop-append_seam before (list ++ rest)) ∙ take-append_seam list rest
 
 parts-behind : {X : Type 0} (before : List X) (lists : List (List X)) → parts_from (length before) (before ++ joined lists) (ends_from (length before) lists) ≡ lists
 parts-behind before [] = refl

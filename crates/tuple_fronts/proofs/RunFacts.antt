@@ -9,6 +9,7 @@ use Rattle.binary_payloads.specs.declared.enc.Enc.{Enc}
 use Rattle.body_lines.specs.Lines.{lines_at}
 use Rattle.dump_io.specs.Lines.{Line, lf, lines_after, lines_from, raw_lines}
 use Rattle.dump_io.specs.Laws.Lines.{AreLines-raw}
+use Rattle.heap_parts.specs.Laws.Places.{raws-behind}
 use Rattle.heap_skeleton.specs.Skeletons.{SkeletonMap}
 use Rattle.term_forms.specs.Elements.{Element}
 use Rattle.tuple_fronts.specs.declared.kept.Kept.{Kept}
@@ -17,28 +18,6 @@ use Rattle.tuple_fronts.specs.Inner.Kept.{Keeps}
 use Rattle.tuple_fronts.proofs.KeptFacts.{Keeps-none, Keeps-then}
 
 -- ---- lines of bytes from a place on
-
--- the lines behind the first
-raws-behind : (bytes raw : List ℕ) (raws : List (List ℕ)) → raw_lines bytes ≡ raw ∷ raws → raw_lines (drop (length raw) bytes) ≡ raws
-raws-behind [] raw raws is = let no : [] ≡ raw ∷ raws = is in cc
-raws-behind (c ∷ bytes) raw raws is = by (raw_lines bytes) refl (raws-behind bytes) (c == lf) is
-  where
-    by : (later : List (List ℕ)) → raw_lines bytes ≡ later → ((line : List ℕ) (lines : List (List ℕ)) → raw_lines bytes ≡ line ∷ lines → raw_lines (drop (length line) bytes) ≡ lines)
-        → (b : Bool) → (if b then (c ∷ []) ∷ raw_lines bytes else lines_after c (raw_lines bytes)) ≡ raw ∷ raws → raw_lines (drop (length raw) (c ∷ bytes)) ≡ raws
-    by later at rest true same =
-        let first : c ∷ [] ≡ raw = cc in
-        let left : raw_lines bytes ≡ raws = cc in
-        ap (λ r. raw_lines (drop (length r) (c ∷ bytes))) (sym first) ∙ left
-    by [] at rest false same =
-        let now : (c ∷ []) ∷ [] ≡ raw ∷ raws = ap (lines_after c) (sym at) ∙ same in
-        let first : c ∷ [] ≡ raw = cc in
-        let left : [] ≡ raws = cc in
-        ap (λ r. raw_lines (drop (length r) (c ∷ bytes))) (sym first) ∙ at ∙ left
-    by (line ∷ lines) at rest false same =
-        let now : (c ∷ line) ∷ lines ≡ raw ∷ raws = ap (lines_after c) (sym at) ∙ same in
-        let first : c ∷ line ≡ raw = cc in
-        let left : lines ≡ raws = cc in
-        ap (λ r. raw_lines (drop (length r) (c ∷ bytes))) (sym first) ∙ rest line lines at ∙ left
 
 -- the lines from a place within the first on
 raws-within : (bytes raw : List ℕ) (raws : List (List ℕ)) (place : ℕ) → raw_lines bytes ≡ raw ∷ raws → place < length raw → raw_lines (drop place bytes) ≡ drop place raw ∷ raws

@@ -24,3 +24,4 @@ mod runs;
 
 pub use faults::FrontsFault;
 pub use fronts::TupleFronts;
+pub use reading::MOST_ELEMENTS;

@@ -1,13 +1,13 @@
 // Reading the lines of cells.
-ghost use Rattle.std.specs.Prelude.{◌≡◌, ◌+◌, ◌-◌, ◌<◌, ◌≤◌, None, length, map, OnOk, IfOk, IfErr, IfSome};
-ghost use Rattle.dump_io.specs.Dumps.{size_of, IsOpen, ReadsAtMost};
-ghost use Rattle.dump_sections.specs.Bodies.{body_size, section_in};
+ghost use Rattle.std.specs.Prelude.{◌+◌, ◌≤◌, None, length, map, OnOk, IfOk, IfErr};
+ghost use Rattle.dump_io.specs.Dumps.{ReadsAtMost};
+ghost use Rattle.dump_sections.specs.Bodies.{body_size, section_in, IsPlaceIn};
 ghost use Rattle.dump_sections.specs.Index.{IsBuiltOver};
 ghost use Rattle.heap_cells.specs.Loading.{enc_of};
 ghost use Rattle.tuple_fronts.specs.Loading.{IsFrontsCauseOf};
 ghost use Rattle.tuple_fronts.specs.Inner.Kept.{Keeps};
 ghost use Rattle.std.specs.List.Sorted.{IsStrictlyIncreasing};
-ghost use Rattle.tuple_fronts.specs.Inner.Hearing.{HasCells, HearsBetween, HearsSection, IsSplitAt, KeepsSection, KeepsSections};
+ghost use Rattle.tuple_fronts.specs.Inner.Hearing.{HasCells, HearsSection, IsSplitAt, KeepsSection, KeepsSections};
 
 use crate::faults::FrontsFault;
 use crate::front_sink::FrontSink;
@@ -21,30 +21,6 @@ use heap_cells::enc_of;
 use heap_skeleton::Skeleton;
 use std::alloc::{AllocError, Global};
 
-// Hears the lines between two offsets of the open file.
-fn hear_lines<D: Dumps>(
-    dumps: &mut D,
-    from: u64,
-    upto: u64,
-    buffer: &mut Vec<u8>,
-    sink: &mut FrontSink<'_>,
-) -> Result<(), FrontsFault>
-    requires open { IsOpen (D.state dumps.old).now }
-    requires within { upto ≤ size_of (D.state dumps.old).now }
-    requires ordered { from ≤ upto }
-    requires cells { HasCells sink.old.skeleton.now sink.old.cells.now }
-    ensures reads { ReadsAtMost (D.state dumps.old) (D.state dumps.new) (upto - from) }
-    ensures fault { IfErr result (IsFrontsCauseOf (D.state dumps.old) (D.state dumps.new)) }
-    ensures hears { OnOk result (HearsBetween sink.old sink.new (D.state dumps.old).now from upto) }
-{
-    match hear_whole_lines(dumps, from, upto, buffer, sink) {
-        Ok(()) => Ok(()),
-        Err(WholeLinesFault::Read) => Err(FrontsFault::Read),
-        Err(WholeLinesFault::Memory) => Err(FrontsFault::Memory),
-        Err(WholeLinesFault::Stopped(_)) => Err(FrontsFault::Memory),
-    }
-}
-
 // Hears the lines of the section at a place. A missing section counts as empty.
 fn hear_section<D: Dumps>(
     dumps: &mut D,
@@ -54,7 +30,7 @@ fn hear_section<D: Dumps>(
     sink: &mut FrontSink<'_>,
 ) -> Result<(), FrontsFault>
     requires over { IsBuiltOver (D.state dumps.old).now index.now }
-    requires place { IfSome place (λ i. i < length index.now.headers) }
+    requires place { IsPlaceIn index.now place }
     requires cells { HasCells sink.old.skeleton.now sink.old.cells.now }
     ensures reads { ReadsAtMost (D.state dumps.old) (D.state dumps.new)
         (body_size (section_in index.now place)) }
@@ -62,11 +38,13 @@ fn hear_section<D: Dumps>(
     ensures hears { OnOk result (HearsSection sink.old sink.new
         (D.state dumps.old).now (section_in index.now place)) }
 {
-    let Some(i) = place else {
-        return Ok(());
-    };
-    let section = index.section(i);
-    hear_lines(dumps, section.body, section.end, buffer, sink)
+    let (from, upto) = index.body_at(place);
+    match hear_whole_lines(dumps, from, upto, buffer, sink) {
+        Ok(()) => Ok(()),
+        Err(WholeLinesFault::Read) => Err(FrontsFault::Read),
+        Err(WholeLinesFault::Memory) => Err(FrontsFault::Memory),
+        Err(WholeLinesFault::Stopped(_)) => Err(FrontsFault::Memory),
+    }
 }
 
 // Keeps empty fronts of cells whose lines weren't found.
@@ -90,7 +68,7 @@ pub(crate) fn keep_section<D: Dumps>(
     kept: Kept,
 ) -> Result<Kept, FrontsFault>
     requires over { IsBuiltOver (D.state dumps.old).now index.now }
-    requires place { IfSome place (λ i. i < length index.now.headers) }
+    requires place { IsPlaceIn index.now place }
     requires cells { HasCells skeleton.now cells.now }
     ensures reads { ReadsAtMost (D.state dumps.old) (D.state dumps.new)
         (body_size (section_in index.now place)) }
@@ -134,8 +112,8 @@ pub(crate) fn keep_fronts<D: Dumps>(
     cells: &[u32],
 ) -> Result<Kept, FrontsFault>
     requires over { IsBuiltOver (D.state dumps.old).now index.now }
-    requires heap { IfSome heap (λ i. i < length index.now.headers) }
-    requires literals { IfSome literals (λ i. i < length index.now.headers) }
+    requires heap { IsPlaceIn index.now heap }
+    requires literals { IsPlaceIn index.now literals }
     requires cells { HasCells skeleton.now cells.now }
     requires ascending { IsStrictlyIncreasing cells.now }
     ensures reads { ReadsAtMost (D.state dumps.old) (D.state dumps.new)

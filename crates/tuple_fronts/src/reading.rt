@@ -15,8 +15,8 @@ use std::alloc::AllocError;
 use term_forms::shapes::Opened;
 use term_forms::{Enc, Joined, PlacedElem, front_is_longest, heap_line, open_form, whole_is_read};
 
-// The most elements that are kept of a tuple.
-const MOST: usize = 8;
+/// The most elements that are kept of a tuple.
+pub const MOST_ELEMENTS: usize = 8;
 
 // The next element, unless all were read, or the text doesn't spell as many.
 fn next_of<'a>(elements: &mut Joined<'a>) -> Option<PlacedElem<'a>>
@@ -47,7 +47,7 @@ fn keep_elements(kept: &mut Kept, text: &[u8], mut elements: Joined<'_>) -> Resu
     requires { elements.text ≡ text.now }
     ensures { OnOk result (Begins kept.old kept.new elements.entry.elements) }
 {
-    for _place in 0..MOST {
+    for _place in 0..MOST_ELEMENTS {
         let Some(found) = next_of(&mut elements) else {
             return Ok(());
         };

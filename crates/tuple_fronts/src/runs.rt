@@ -1,12 +1,12 @@
 // Finding the lines of cells in a run of lines.
-ghost use Rattle.std.specs.Prelude.{◌≡◌, ◌+◌, ◌-◌, ◌<◌, ◌≤◌, ◌^◌, drop, length, OnOk, IfOk, IfSome, IfNone};
+ghost use Rattle.std.specs.Prelude.{◌≡◌, ◌+◌, ◌-◌, ◌<◌, ◌≤◌, ◌^◌, drop, length, OnOk, IfOk};
 ghost use Rattle.body_lines.specs.Lines.{lines_at};
 ghost use Rattle.tuple_fronts.specs.Inner.Kept.{Keeps};
 ghost use Rattle.tuple_fronts.specs.Inner.Hearing.{HasCells, KeepsNext, is_tuple, known_of, left_behind};
 
 use crate::kept::Kept;
 use crate::reading::keep_line;
-use dump_io::line_len;
+use dump_io::{bytes_from, line_len};
 use heap_skeleton::{Kind, Skeleton};
 use std::alloc::AllocError;
 use term_forms::Enc;
@@ -39,14 +39,6 @@ fn keep_next(
     let is_tuple = is_tuple(skeleton.kind(cell));
     keep_line(kept, &rest[place..place + size], enc, is_tuple)?;
     Ok(Some(place + size))
-}
-
-// The bytes from a place on.
-fn behind(bytes: &[u8], from: usize) -> &[u8]
-    requires { from ≤ length bytes.now }
-    ensures { result.now ≡ drop from bytes.now }
-{
-    &bytes[from..]
 }
 
 /// The cells from a place on.
@@ -83,7 +75,7 @@ pub(crate) fn keep_run<'a>(
             return Ok(left);
         };
         line += size as u64;
-        rest = behind(rest, size);
+        rest = bytes_from(rest, size);
         left = cells_behind(left, 1);
     }
     Ok(left)

@@ -1,15 +1,11 @@
 -- The mailboxes of processes.
-use Rattle.std.specs.Prelude.{ℕ, List, ◌<◌, ◌≤◌, length, Option, IfSome}
+use Rattle.std.specs.Prelude.{ℕ, List, ◌≤◌, Option, IfSome}
 use Rattle.dump_sections.specs.Bodies.{body_length, section_at}
 use Rattle.dump_sections.specs.Index.{Contents, sections_in}
 use Rattle.dump_sections.specs.Loading.{bodies_length}
 use Rattle.audit_bodies.specs.Mailboxes.{mailboxes_at}
 
--- the mailbox, if there is one, is a section of the index
-abbrev pub IsWithin : Contents → Option ℕ → Type 0
-IsWithin index place = IfSome place (λ i. i < length index.headers)
-
--- its body isn't longer than the limit
+-- the body of the mailbox, if there is one, isn't longer than the limit
 abbrev pub IsSmall : Contents → ℕ → Option ℕ → Type 0
 IsSmall index limit place = IfSome place (λ i. body_length (section_at index i) ≤ limit)
 

@@ -5,7 +5,7 @@ use Rattle.dump_sections.specs.Sections.{Section}
 use Rattle.dump_sections.specs.Loading.{sections_at}
 use Rattle.process_table.specs.Records.{proc_places, record_sections}
 use Rattle.audit_bodies.specs.Mailboxes.{mailbox_places, mailboxes_at}
-use Rattle.audit_bodies.specs.Inner.Mailboxes.{IsWithin}
+use Rattle.dump_sections.specs.Bodies.{IsPlaceIn}
 use Rattle.audit_bodies.specs.declared.loading.BodyPlaces.{BodyPlaces}
 
 -- the sections whose bodies an audit loads: those of the processes, and the mailboxes that were found
@@ -17,6 +17,6 @@ sections_found index places = record_sections (sections_in index) ++ mailboxes_a
 pub record AreBodyPlaces (full : Bool) (index : Contents) (places : BodyPlaces) : Type 0 where
   pub found : places.found ≡ proc_places (sections_in index)
   pub mailboxes : places.mailboxes.items ≡ (if full then mailbox_places (sections_in index) else [])
-  pub within : All (IsWithin index) places.mailboxes.items
+  pub within : All (IsPlaceIn index) places.mailboxes.items
   pub present : sections_at index places.present.items ≡ mailboxes_at (sections_in index) places.mailboxes.items
   pub there : All (λ i. i < length index.headers) places.present.items

@@ -1,16 +1,14 @@
 -- Hearing the lines of a heap.
 use Rattle.std.specs.Prelude.{◌≡◌, ℕ, List, ◌++◌, length, Option}
-use Rattle.std.specs.List.{between}
 use Rattle.binary_payloads.specs.declared.enc.Enc.{Enc}
 use Rattle.body_lines.specs.Lines.{lines_at}
 use Rattle.dump_io.specs.Dumps.{Now, IfTold}
 use Rattle.dump_io.specs.Lines.{Line}
-use Rattle.dump_sections.specs.Bodies.{body_in}
+use Rattle.dump_sections.specs.Bodies.{body_in, body_start}
 use Rattle.dump_sections.specs.Sections.{Section}
 use Rattle.heap_skeleton.specs.declared.heap_sink.HeapSink.{HeapSink}
 use Rattle.heap_skeleton.specs.declared.held.Held.{Held}
 use Rattle.heap_skeleton.specs.Inner.Held.{HeapLine, Gains, IsHeld, heap_lines}
-use Rattle.heap_skeleton.specs.Skeletons.{body_start}
 
 -- between two states the heap lines among these were appended
 pub record TakesLines (old new : HeapSink) (lines : List Line) : Type 0 where
@@ -21,14 +19,7 @@ pub record TakesLines (old new : HeapSink) (lines : List Line) : Type 0 where
 abbrev pub section_lines : Enc → List ℕ → Option Section → List HeapLine
 section_lines enc dump found = heap_lines enc (lines_at (body_start found) (body_in dump found))
 
--- some heap lines were appended: those between two offsets, if the device tells the bytes of what is open
-pub record HearsBetween (old new : HeapSink) (now : Now) (from upto : ℕ) : Type 0 where
-  pub enc : new.enc ≡ old.enc
-  pub lines : List HeapLine
-  pub gains : Gains old.held new.held lines
-  pub are : IfTold now (λ dump. lines ≡ heap_lines old.enc (lines_at from (between from upto dump)))
-
--- some were: those of a section
+-- some heap lines were appended: those of a section, if the device tells the bytes of what is open
 pub record HearsSection (old new : HeapSink) (now : Now) (found : Option Section) : Type 0 where
   pub enc : new.enc ≡ old.enc
   pub lines : List HeapLine

@@ -1,9 +1,7 @@
 -- Hearing the roots of a process.
 use Rattle.std.specs.Prelude.{◌≡◌, ℕ, List, ◌++◌, Option}
-use Rattle.std.specs.List.{between}
 use Rattle.dump_io.specs.Dumps.{Now, IfTold}
 use Rattle.dump_sections.specs.Sections.{Section}
-use Rattle.root_lines.specs.Placed.{placed_roots}
 use Rattle.root_views.specs.Roots.{BodyRoot}
 use Rattle.root_views.specs.declared.kinds.RootKind.{RootKind}
 use Rattle.cell_parts.specs.Parts.{ArePartsOf, CellParts, PartElement}
@@ -23,12 +21,6 @@ GainsElements old new more = (elements : List PartElement) → ArePartsOf elemen
 pub record Gains (old new : RootParts) (roots : List BodyRoot) : Type 0 where
   pub skeleton : new.skeleton ≡ old.skeleton
   pub parts : GainsElements old.parts new.parts (roots_elements old.skeleton.now.addresses roots)
-
--- so did those of the roots between two offsets of what is open
-pub record GainsBetween (now : Now) (kind : RootKind) (from upto : ℕ) (old new : RootParts) : Type 0 where
-  pub skeleton : new.skeleton ≡ old.skeleton
-  pub parts : IfTold now (λ dump. GainsElements old.parts new.parts
-      (roots_elements old.skeleton.now.addresses (placed_roots kind from (between from upto dump))))
 
 -- so did those of the roots in a section of what is open
 pub record GainsSection (now : Now) (kind : RootKind) (found : Option Section) (old new : RootParts) : Type 0 where

@@ -1,5 +1,5 @@
 -- Parts with what they alone hold, as they are kept.
-use Rattle.std.specs.Prelude.{◌≡◌, ℕ, ◌<◌, List, [], length, map, All, Option, slice_index_or}
+use Rattle.std.specs.Prelude.{◌≡◌, ◌<◌, List, [], length, map, All, Option, slice_index_or}
 use Rattle.cell_parts.specs.Parts.{CellPart, CellParts}
 use Rattle.heap_skeleton.specs.Skeletons.{SkeletonMap}
 use Rattle.heap_weights.specs.Shares.{AreShares}

@@ -1,5 +1,5 @@
 -- Reading the stacks of processes.
-use Rattle.std.specs.Prelude.{◌≡◌, ℕ, ◌<◌, List, ◌++◌, length, codes, Option, option_map, IfSome}
+use Rattle.std.specs.Prelude.{◌≡◌, ℕ, List, ◌++◌, codes, option_map}
 use Rattle.std.specs.List.{flat_map}
 use Rattle.dump_sections.specs.Index.{Contents}
 use Rattle.first_sections.specs.Firsts.{Firsts}
@@ -7,10 +7,6 @@ use Rattle.section_rows.specs.Rows.{Row}
 use Rattle.process_stacks.specs.Frames.{cut_text, frames}
 use Rattle.process_stacks.specs.Places.{part_line, place_line}
 use Rattle.process_stacks.specs.Rows.{call_in, counter_in}
-
--- a place is that of a section of the index
-abbrev pub IsWithin : Contents → Option ℕ → Type 0
-IsWithin index place = IfSome place (λ i. i < length index.headers)
 
 -- these are the stacks of an index, by their pids
 pub record AreStacksOf (index : Contents) (stacks : Firsts) : Type 0 where

@@ -1,6 +1,5 @@
 -- Hearing the lines of cells, in the order of the offsets at which they begin.
 use Rattle.std.specs.Prelude.{◌≡◌, ℕ, ◌+◌, ◌-◌, ◌<◌, ◌≤◌, Bool, true, false, nat_lt, if◌then◌else◌, List, [], ◌∷◌, ◌++◌, length, drop, map, slice_index_or, take, All, Option, None, Some}
-use Rattle.std.specs.List.{between}
 use Rattle.std.specs.List.Sorted.{IsPartitionPoint}
 use Rattle.std.specs.Option.{option_and_then}
 use Rattle.binary_payloads.specs.declared.enc.Enc.{Enc}
@@ -9,9 +8,9 @@ use Rattle.cell_records.specs.declared.cells.Kind.{Kind}
 use Rattle.cell_records.specs.declared.cells.Kind.TheVariants as kind
 use Rattle.dump_io.specs.Dumps.{Now, IfTold}
 use Rattle.dump_io.specs.Lines.{Line, raw_lines, text_of}
-use Rattle.dump_sections.specs.Bodies.{body_in}
+use Rattle.dump_sections.specs.Bodies.{body_in, body_start}
 use Rattle.dump_sections.specs.Sections.{Section}
-use Rattle.heap_skeleton.specs.Skeletons.{SkeletonMap, body_start}
+use Rattle.heap_skeleton.specs.Skeletons.{SkeletonMap}
 use Rattle.term_forms.specs.Elements.{Element}
 use Rattle.term_forms.specs.Forms.{HeapForm, Tuple}
 use Rattle.term_forms.specs.ReadingForms.{form_of}
@@ -99,13 +98,7 @@ KeepsNext s enc cell line rest old new (Some size) =
 abbrev pub section_lines : List ℕ → Option Section → List Line
 section_lines dump found = lines_at (body_start found) (body_in dump found)
 
--- the fronts of the cells of some lines were kept: of those between two offsets, if the device tells the bytes of what is open
-pub record HearsBetween (old new : FrontSink) (now : Now) (from upto : ℕ) : Type 0 where
-  pub lines : List Line
-  pub takes : TakesFronts old new lines
-  pub are : IfTold now (λ dump. lines ≡ lines_at from (between from upto dump))
-
--- of those of a section
+-- the fronts of the cells of some lines were kept: of those of a section, if the device tells the bytes of what is open
 pub record HearsSection (old new : FrontSink) (now : Now) (found : Option Section) : Type 0 where
   pub lines : List Line
   pub takes : TakesFronts old new lines

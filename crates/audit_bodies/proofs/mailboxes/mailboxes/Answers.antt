@@ -1,11 +1,11 @@
-use Rattle.std.proofs.Common.{◌≡◌, ℕ, ◌<◌, List, [], ◌∷◌, ◌++◌, length, map, take, sym, ◌∙◌, ap, subst}
-use Rattle.std.specs.Prelude.{All, IfSome, Some, position}
+use Rattle.std.proofs.Common.{◌≡◌, ℕ, List, [], ◌∷◌, ◌++◌, map, take, sym, ◌∙◌, ap, subst}
+use Rattle.std.specs.Prelude.{All, Some, position}
 use Rattle.std.proofs.lemmas.List.{map-append}
 use Rattle.std.proofs.lemmas.List.Elements.{All-append, All-cons, All-nil}
 use Rattle.dump_sections.specs.Index.{sections_in}
 use Rattle.dump_sections.specs.Lookups.{is_named}
 use Rattle.audit_bodies.specs.Mailboxes.{mailbox_place}
-use Rattle.audit_bodies.specs.Inner.Mailboxes.{IsWithin}
+use Rattle.dump_sections.specs.Bodies.{IsPlaceIn}
 use Rattle.audit_bodies.proofs.mailboxes.mailboxes.Goals as goal
 use Rattle.dump_io.specs.Laws.Lists.{take-at}
 
@@ -31,8 +31,8 @@ loop-p-preserved c =
           ∙ sym (map-append place_of (map pid before) (p.0 ∷ []))
           ∙ ap (map place_of) (sym (map-append pid before (p ∷ [])))
           ∙ ap (λ l. map place_of (map pid l)) (sym (take-at found c.loop-p.p p c.at-section.ensures));
-      within = subst (All (IsWithin index)) (sym c.in_ok-push.ensures.items)
-          (All-append (IsWithin index) c.loop-p.places.items (c.get-place.result ∷ []) c.loop-p.invariant.within
-          (All-cons (IsWithin index) c.get-place.result [] (subst (λ i. IfSome c.get-place.result (λ n. n < length i.headers)) c.in_ok-firsts.ensures.index c.get-place.ensures.within)
-          (All-nil (IsWithin index))));
+      within = subst (All (IsPlaceIn index)) (sym c.in_ok-push.ensures.items)
+          (All-append (IsPlaceIn index) c.loop-p.places.items (c.get-place.result ∷ []) c.loop-p.invariant.within
+          (All-cons (IsPlaceIn index) c.get-place.result [] (subst (λ i. IsPlaceIn i c.get-place.result) c.in_ok-firsts.ensures.index c.get-place.ensures.within)
+          (All-nil (IsPlaceIn index))));
     }

@@ -1,7 +1,7 @@
 use Rattle.std.proofs.Common.{◌≡◌, map, take, All}
 use Rattle.dump_sections.specs.Index.{sections_in}
 use Rattle.audit_bodies.specs.Mailboxes.{mailbox_place}
-use Rattle.audit_bodies.specs.Inner.Mailboxes.{IsWithin}
+use Rattle.dump_sections.specs.Bodies.{IsPlaceIn}
 use Rattle.audit_bodies.proofs.mailboxes.mailboxes.Given as goal
 
 -- the places of the processes so far
@@ -9,5 +9,5 @@ abbrev pub invariant-loop-p : goal.invariant-loop-p
 invariant-loop-p l =
     record {
       places : l.places.items ≡ map (mailbox_place (sections_in l.index)) (map (λ p. p.0) (take l.p l.found.places));
-      within : All (IsWithin l.index) l.places.items;
+      within : All (IsPlaceIn l.index) l.places.items;
     }

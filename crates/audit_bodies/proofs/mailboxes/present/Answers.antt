@@ -1,7 +1,7 @@
 use Rattle.std.proofs.Common.{◌<◌, [], ◌∷◌, length, All, None, sym, ◌∙◌, ap, subst}
 use Rattle.std.proofs.lemmas.List.Elements.{All-append, All-cons, All-nil}
 use Rattle.dump_sections.specs.Loading.{sections_at}
-use Rattle.audit_bodies.specs.Inner.Mailboxes.{IsWithin}
+use Rattle.dump_sections.specs.Bodies.{IsPlaceIn}
 use Rattle.audit_bodies.proofs.MailPlaces.{present-passed, present-taken}
 use Rattle.audit_bodies.proofs.mailboxes.present.Goals as goal
 use Rattle.audit_bodies.proofs.mailboxes.present.Goals.{in-Some+in_ok-push, in_default}
@@ -17,7 +17,7 @@ loop-place-preserved c =
             ∙ present-taken index places n c.loop-place-test.true c.loop-place.present.items w.in-Some.i w.in-Some.is c.loop-place.invariant.sections;
         within = subst (All (λ i. i < length index.headers)) (sym w.in_ok-push.ensures.items)
             (All-append (λ i. i < length index.headers) c.loop-place.present.items (w.in-Some.i ∷ []) c.loop-place.invariant.within
-            (All-cons (λ i. i < length index.headers) w.in-Some.i [] (subst (IsWithin index) w.in-Some.is (c.requires n None c.loop-place-test.true)) (All-nil (λ i. i < length index.headers))));
+            (All-cons (λ i. i < length index.headers) w.in-Some.i [] (subst (IsPlaceIn index) w.in-Some.is (c.requires n None c.loop-place-test.true)) (All-nil (λ i. i < length index.headers))));
       })
       | in_default w ↦ rw w.present-is (record {
         sections = present-passed index places n c.loop-place-test.true c.loop-place.present.items w.in_default.is c.loop-place.invariant.sections;

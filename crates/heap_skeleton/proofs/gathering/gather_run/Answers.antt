@@ -14,10 +14,10 @@ loop-rest-preserved c =
     let within = c.line_len-size.ensures.within in
     let front : length (take size rest) ≡ size = let n = length-take size rest in omega (arith, n, within) in
     let behind : length (drop size rest) + size ≡ length rest = let n = length-drop size rest in omega (arith, n, within) in
-    let first : raw_lines rest ≡ take size rest ∷ raw_lines c.behind-rest.result.now = c.line_len-size.ensures.first ∙ ap (λ l. take size rest ∷ raw_lines l) (sym c.behind-rest.ensures) in
+    let first : raw_lines rest ≡ take size rest ∷ raw_lines c.bytes_from-rest.result.now = c.line_len-size.ensures.first ∙ ap (λ l. take size rest ∷ raw_lines l) (sym c.bytes_from-rest.ensures) in
     record {
       small = c.in_ok-gather_line.ensures.small;
-      took = TookFront-more c.args.enc c.args.held.now c.loop-rest.held c.gather_line.new.held c.args.at c.args.run.now c.loop-rest.line rest (take size rest) c.behind-rest.result.now
-          (c.loop-rest.line + size) first (ap (λ n. c.loop-rest.line + n) (sym front)) (omega (arith, front, behind, ap length c.behind-rest.ensures)) c.loop-rest.invariant.took
+      took = TookFront-more c.args.enc c.args.held.now c.loop-rest.held c.gather_line.new.held c.args.at c.args.run.now c.loop-rest.line rest (take size rest) c.bytes_from-rest.result.now
+          (c.loop-rest.line + size) first (ap (λ n. c.loop-rest.line + n) (sym front)) (omega (arith, front, behind, ap length c.bytes_from-rest.ensures)) c.loop-rest.invariant.took
           c.in_ok-gather_line.ensures.gains;
     }

@@ -11,10 +11,10 @@ pub loop-rest-preserved : goal.loop-rest-preserved
 loop-rest-preserved c =
     let rest = c.loop-rest.rest.now in
     let size = c.line_len-size.result in
-    let first : raw_lines rest ≡ take size rest ∷ raw_lines c.behind-rest.result.now = c.line_len-size.ensures.first ∙ ap (λ l. take size rest ∷ raw_lines l) (sym c.behind-rest.ensures) in
+    let first : raw_lines rest ≡ take size rest ∷ raw_lines c.bytes_from-rest.result.now = c.line_len-size.ensures.first ∙ ap (λ l. take size rest ∷ raw_lines l) (sym c.bytes_from-rest.ensures) in
     record {
       ready = c.in_ok-take_line.ensures.«open»;
-      took = TookFront-more c.args.sink.now c.loop-rest.sink c.take_line.new.sink c.args.run.now rest (take size rest) c.behind-rest.result.now first c.loop-rest.invariant.took c.in_ok-take_line.ensures.takes;
+      took = TookFront-more c.args.sink.now c.loop-rest.sink c.take_line.new.sink c.args.run.now rest (take size rest) c.bytes_from-rest.result.now first c.loop-rest.invariant.took c.in_ok-take_line.ensures.takes;
     }
 
 pub returns-in_err-take_line-clause-stops : goal.returns-in_err-take_line-clause-stops

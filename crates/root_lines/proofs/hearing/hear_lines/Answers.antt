@@ -10,6 +10,6 @@ loop-rest-preserved c =
     let is : size ≡ length (take size rest) = sym (length-take-le size rest c.line_len-size.ensures.within) in
     record {
       ready = c.in_ok-hear_line.ensures.ready;
-      took = subst (TookFront c.args.sink.now c.hear_line.new.sink c.args.at c.args.run.now (c.loop-rest.line + size)) (sym c.behind-rest.ensures)
+      took = subst (TookFront c.args.sink.now c.hear_line.new.sink c.args.at c.args.run.now (c.loop-rest.line + size)) (sym c.bytes_from-rest.ensures)
           (TookFront-more c.args.sink.now c.loop-rest.sink c.hear_line.new.sink c.args.at c.args.run.now c.loop-rest.line rest size is c.line_len-size.ensures.first c.loop-rest.invariant.took c.in_ok-hear_line.ensures.takes);
     }

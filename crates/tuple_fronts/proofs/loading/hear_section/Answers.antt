@@ -1,10 +1,8 @@
-use Rattle.std.proofs.Common.{subst, sym}
 use Rattle.dump_sections.specs.Bodies.{section_in}
-use Rattle.tuple_fronts.specs.Inner.Hearing.{HearsSection}
-use Rattle.tuple_fronts.proofs.HearFacts.{section-none}
+use Rattle.tuple_fronts.proofs.HearFacts.{section-hears}
 use Rattle.tuple_fronts.proofs.loading.hear_section.Goals as goal
 
-pub returns-in_default-clause-hears : goal.returns-in_default-clause-hears
-returns-in_default-clause-hears g c =
-    let now = (g.D.Dumps.state c.args.dumps.now).now in
-    subst (λ place. HearsSection c.args.sink.now c.args.sink.now now (section_in c.args.index.now place)) (sym c.in_default.is) (section-none c.args.sink.now now)
+pub returns-in-Ok-clause-hears : goal.returns-in-Ok-clause-hears
+returns-in-Ok-clause-hears g c =
+    let part = c.body_at-from.ensures in
+    section-hears c.args.sink.now c.hear_whole_lines.new.sink (g.D.Dumps.state c.args.dumps.now).now c.body_at-from.result.0 c.body_at-from.result.1 (section_in c.args.index.now c.args.place) part.start part.body c.in-Ok.ensures.hears

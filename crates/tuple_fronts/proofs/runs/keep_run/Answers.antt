@@ -43,9 +43,9 @@ loop-rest-preserved c =
     let is = cells-first left c.loop-rest-test.ensures in
     let next = subst (KeepsNext s c.args.enc cell line rest c.loop-rest.kept c.keep_next.new.kept) c.in-Some.is c.in_ok-size.ensures in
     let later =
-    taken-more s c.args.enc c.args.kept.now c.loop-rest.kept c.keep_next.new.kept c.args.at c.args.run.now c.args.cells.now line rest cell (drop 1 left) size (line + size) c.behind-rest.result.now
-    (subst (HasTaken s c.args.enc c.args.kept.now c.loop-rest.kept c.args.at c.args.run.now c.args.cells.now line rest) is c.loop-rest.invariant) next refl c.behind-rest.ensures in
-    subst (HasTaken s c.args.enc c.args.kept.now c.keep_next.new.kept c.args.at c.args.run.now c.args.cells.now (line + size) c.behind-rest.result.now) (sym c.cells_behind-left.ensures) later
+    taken-more s c.args.enc c.args.kept.now c.loop-rest.kept c.keep_next.new.kept c.args.at c.args.run.now c.args.cells.now line rest cell (drop 1 left) size (line + size) c.bytes_from-rest.result.now
+    (subst (HasTaken s c.args.enc c.args.kept.now c.loop-rest.kept c.args.at c.args.run.now c.args.cells.now line rest) is c.loop-rest.invariant) next refl c.bytes_from-rest.ensures in
+    subst (HasTaken s c.args.enc c.args.kept.now c.keep_next.new.kept c.args.at c.args.run.now c.args.cells.now (line + size) c.bytes_from-rest.result.now) (sym c.cells_behind-left.ensures) later
 
 pub returns-clause-left : goal.returns-clause-left
 returns-clause-left c =
