@@ -1,13 +1,13 @@
 -- Which numbers come before all others with their address.
-use Rattle.std.proofs.Common.{◌≡◌, ℕ, zero, suc, ◌+◌, ◌-◌, ◌<◌, ◌≤◌, ◌==◌, ◌||◌, ◌⊎◌, ⊎_elim, inl, inr, Bool, true, false, not, List, length, get_or, set, take, refl, sym, ◌∙◌, ap, subst, arith, below_more, ◌^◌, ap₂}
+use Rattle.std.proofs.Common.{◌≡◌, ℕ, zero, suc, ◌+◌, ◌-◌, ◌<◌, ◌≤◌, ◌==◌, ◌||◌, ◌⊎◌, ⊎_elim, inl, inr, Bool, true, false, not, Some, List, length, get_or, set, take, refl, sym, ◌∙◌, ap, subst, arith, below_more, ◌^◌, ap₂}
 use Rattle.std.proofs.lemmas.Bool.{true≢false, cases_eq, cases_lt, false_from_ne_true, eq-eqb, eqb-true}
 use Rattle.std.proofs.lemmas.Grind.{get_or-set_at}
 use Rattle.std.proofs.lemmas.List.{get_or_default, get_or-set_other, get_or-set_same, length-set, length-map, get_or-take, length-take}
 use Rattle.std.proofs.lemmas.List.Folds.{list_any_none, list_any_at}
 use Rattle.cell_records.specs.Firsts.{AreFirsts, AreApart}
-use Rattle.cell_records.specs.Order.{address_in, rank, IsOrder, is_first, AreAllFirst, AreRanked}
-use Rattle.cell_records.specs.Inner.Places.{begins_at}
-use Rattle.cell_records.proofs.OrderFacts.{ranked, lesser, numbers_of, order-of, address-at}
+use Rattle.cell_records.specs.Order.{address_in, number_with, rank, IsOrder, is_first, AreAllFirst, AreRanked}
+use Rattle.cell_records.specs.Inner.Places.{begins_at, StandsAt}
+use Rattle.cell_records.proofs.OrderFacts.{number-first, ranked, lesser, numbers_of, order-of, address-at}
 
 -- no number before this one has its address
 abbrev pub IsFirst : List ℕ → ℕ → Type 0
@@ -157,6 +157,12 @@ pub passes-first : (xs : List ℕ) (n : ℕ) → n < length xs → is_first xs n
 passes-first xs n inside passes m less same =
     true≢false (sym passes ∙ ap not (list_any_at (λ a. a == address_in xs n) (take n xs) m 0 (omega (arith, less, inside, length-take n xs))
     (eq-eqb _ _ (get_or-take n xs m 0 less ∙ same))))
+
+-- where no two numbers have the same address the one that has it is the first
+pub stands-first : (xs : List ℕ) (address number : ℕ) → AreAllFirst xs → StandsAt xs number address → number_with xs address ≡ Some number
+stands-first xs address number all stands =
+    number-first xs address number stands.within stands.address_is
+    (λ m before same. passes-first xs number stands.within (all.each number stands.within) m before (same ∙ sym stands.address_is))
 
 pub marked-all : (xs : List ℕ) (order : List ℕ) (firsts : List Bool) → IsOrder xs order → AreMarked xs order firsts (length order) → AreFirsts xs firsts
 marked-all xs order firsts is marked = record {

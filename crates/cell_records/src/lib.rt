@@ -26,6 +26,6 @@ pub use arena::{Arena, slots_of};
 pub use cells::{CellIx, CellRecord, Kind, Slot, Span, Why};
 pub use firsts::{are_apart, firsts_of};
 pub use located::Located;
-pub use order::{number_of, ranks_of};
+pub use order::{number_near, number_of, ranks_of};
 pub use ranks::Ranks;
 pub use settling::{Settled, settle};

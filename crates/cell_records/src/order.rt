@@ -1,8 +1,8 @@
 // The numbers of cells by address.
-ghost use Rattle.std.specs.Prelude.{◌≡◌, ◌<◌, ◌≤◌, length, map, IfOk, ◌^◌, [], OnOk};
+ghost use Rattle.std.specs.Prelude.{◌≡◌, ◌<◌, ◌≤◌, true, length, map, IfOk, ◌^◌, [], OnOk};
 ghost use Rattle.std.specs.List.Sorted.{IsNonDecreasingBy};
-ghost use Rattle.cell_records.specs.Order.{address_in, number_with, IsOrder, AreAddressPairs, AreRanked};
-ghost use Rattle.cell_records.specs.Inner.Places.{IsPointOf};
+ghost use Rattle.cell_records.specs.Order.{address_in, number_with, IsOrder, AreAddressPairs, AreAllFirst, AreRanked};
+ghost use Rattle.cell_records.specs.Inner.Places.{IsPointOf, StandsAt};
 
 use crate::located::Located;
 use crate::ranks::Ranks;
@@ -73,4 +73,27 @@ pub fn ranks_of<T: Located>(alloc: Global, cells: &[T]) -> Result<Ranks, AllocEr
     let mut ranks = pairs_of(alloc, cells)?;
     ranks.sort();
     Ok(ranks)
+}
+
+// Whether there is a cell with this number, and it has this address.
+fn stands_at<T: Located>(cells: &[T], number: u32, address: u64) -> bool
+    ensures { result ≡ true → StandsAt (map T.address cells.now) number address }
+{
+    match cells.get(number as usize) {
+        Some(cell) => cell.address() == address,
+        None => false,
+    }
+}
+
+/// The number of the cell with an address, where no two cells have the same address. The cell
+/// with the number `near` is looked at first, which saves the search if it is that one.
+pub fn number_near<T: Located>(ranks: &Ranks, cells: &[T], near: u32, address: u64) -> Option<u32>
+    requires ranked { AreRanked (map T.address cells.now) ranks.now }
+    requires distinct { AreAllFirst (map T.address cells.now) }
+    ensures { result ≡ number_with (map T.address cells.now) address }
+{
+    if stands_at(cells, near, address) {
+        return Some(near);
+    }
+    ranks.find(address)
 }
