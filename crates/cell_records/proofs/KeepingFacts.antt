@@ -1,5 +1,5 @@
 -- Of the records with one address the first is kept.
-use Rattle.std.proofs.Common.{◌⊎◌, inl, inr, ◌<◌, ◌^◌, Result, Ok, Err, ◌≡◌, ℕ, zero, suc, ◌+◌, ◌-◌, ◌≤◌, Bool, true, false, cond, List, ◌++◌, length, drop, Option, None, Some, sym, ◌∙◌, ap, subst, arith, length-append}
+use Rattle.std.proofs.Common.{◌⊎◌, inl, inr, Result, Ok, Err, ◌≡◌, ℕ, zero, suc, ◌+◌, ◌-◌, ◌≤◌, Bool, true, false, cond, List, ◌++◌, length, drop, Option, None, Some, sym, ◌∙◌, ap, subst, arith, length-append}
 use Rattle.std.specs.Prelude.{slice_get, [], ◌∷◌, IfOk}
 use Rattle.std.specs.Option.{option_map_or}
 use Rattle.std.proofs.lemmas.List.{length-take}
@@ -7,7 +7,7 @@ use Rattle.cell_records.specs.declared.arena.Arena.{Arena}
 use Rattle.cell_records.specs.declared.cells.CellRecord.{CellRecord}
 use Rattle.cell_records.specs.declared.cells.Slot.{Slot}
 use Rattle.cell_records.specs.Keeping.{moved_record, kept_upto, AreAllKept, AreFirstKept}
-use Rattle.cell_records.specs.Order.{is_first, AreRanked, AreAllFirst, IsOrder}
+use Rattle.cell_records.specs.Order.{addresses_of, is_first, IsOrder, AreOfFirsts, AreRanked}
 use Rattle.cell_records.specs.Slots.{start_at, slots_at, AreOrdered}
 use Rattle.cell_records.specs.declared.keeping.Indexed.{Indexed}
 use Rattle.cell_records.specs.declared.settling.Settled.{Settled}
@@ -24,7 +24,7 @@ moved-one rs i first = of (slice_get rs i)
     of None = omega arith
     of (Some r) = omega arith
 
-pub keeping-first : (all old new : Arena) (i : ℕ) → is_first all.cells.items i ≡ true → IsKeeping all old i
+pub keeping-first : (all old new : Arena) (i : ℕ) → is_first (addresses_of all.cells.items) i ≡ true → IsKeeping all old i
     → new.cells.items ≡ old.cells.items ++ moved_record all.cells.items i (length old.slots.items) → new.slots.items ≡ old.slots.items ++ slots_at all.cells.items all.slots.items i
     → IsKeeping all new (i + 1)
 keeping-first all old new i first before cells slots =
@@ -48,7 +48,7 @@ keeping-first all old new i first before cells slots =
           omega (arith, few, one, ap length cells, length-append old.cells.items (moved_record rs i (length old.slots.items)));
     }
 
-pub keeping-other : (all old : Arena) (i : ℕ) → is_first all.cells.items i ≡ false → IsKeeping all old i → IsKeeping all old (i + 1)
+pub keeping-other : (all old : Arena) (i : ℕ) → is_first (addresses_of all.cells.items) i ≡ false → IsKeeping all old i → IsKeeping all old (i + 1)
 keeping-other all old i other before =
     let rs = all.cells.items in
     let ss = all.slots.items in
@@ -81,7 +81,7 @@ kept-few rs ss (suc n) inside ordered =
     let upto = start_at rs (n + 1) (length ss) in
     let piece : length (slots_at rs ss n) ≤ upto - from = let count = length-take (upto - from) (drop from ss) in omega (arith, count) in
     subst (λ m. length (kept_upto rs ss (suc n)).1 ≤ start_at rs m (length ss)) next
-    (few-unless (is_first rs n) kept.0 (kept.0 ++ moved_record rs n (length kept.1)) kept.1 (slots_at rs ss n) from upto (kept-few rs ss n (omega arith) ordered) (ordered.ordered n (omega arith)) piece)
+    (few-unless (is_first (addresses_of rs) n) kept.0 (kept.0 ++ moved_record rs n (length kept.1)) kept.1 (slots_at rs ss n) from upto (kept-few rs ss n (omega arith) ordered) (ordered.ordered n (omega arith)) piece)
 
 pub kept-total : (rs : List CellRecord) (ss : List Slot) (n : ℕ) → n ≤ length rs → AreOrdered rs (length ss) → length (kept_upto rs ss n).1 ≤ length ss
 kept-total rs ss zero inside ordered = omega arith
@@ -92,10 +92,10 @@ kept-total rs ss (suc n) inside ordered =
     omega (arith, most, ap (λ m. start_at rs m (length ss)) next, end)
 
 -- what is kept, where all are
-pub all-index : (all : Arena) (own : ℕ) (found : Indexed) → AreAllFirst found.ranks → length all.cells.items < 2 ^ 27 → IsRankedArena all own found → IsKeptIndex all own found
-all-index all own found first few is = record {
-  kept = inl (record { first = first all.cells.items few is.ranks_are; arena_is = is.arena_is; own_is = is.own_is });
-  ranks_are = subst (λ (a : Arena). AreRanked a.cells.items found.ranks) (sym is.arena_is) is.ranks_are;
+pub all-index : (all : Arena) (own : ℕ) (found : Indexed) → AreOfFirsts found.ranks → IsRankedArena all own found → IsKeptIndex all own found
+all-index all own found first is = record {
+  kept = inl (record { first = first (addresses_of all.cells.items) is.ranks_are; arena_is = is.arena_is; own_is = is.own_is });
+  ranks_are = subst (λ (a : Arena). AreRanked (addresses_of a.cells.items) found.ranks) (sym is.arena_is) is.ranks_are;
   few_cells = let same = ap (λ (a : Arena). length a.cells.items) is.arena_is in omega (arith, same);
   few_slots = let same = ap (λ (a : Arena). length a.slots.items) is.arena_is in omega (arith, same);
 }
@@ -113,7 +113,7 @@ module _ (all : Arena) (own : ℕ) (first : Indexed) (kept : Arena) (kept_own : 
       slots_are = ap (λ (a : Arena). a.slots.items) ranked.arena_is ∙ of-all.whole.slots_are;
       own_is = ranked.own_is ∙ of-all.own_is;
     });
-    ranks_are = subst (λ (a : Arena). AreRanked a.cells.items found.ranks) (sym ranked.arena_is) ranked.ranks_are;
+    ranks_are = subst (λ (a : Arena). AreRanked (addresses_of a.cells.items) found.ranks) (sym ranked.arena_is) ranked.ranks_are;
     few_cells = let same = ap (λ (a : Arena). length a.cells.items) ranked.arena_is in let few = of-all.whole.few in omega (arith, same, few);
     few_slots = let same = ap (λ (a : Arena). length a.slots.items) ranked.arena_is in let most = kept-total all.cells.items all.slots.items (length all.cells.items) (omega arith) ordered in
         omega (arith, same, ap length of-all.whole.slots_are, most);
@@ -124,13 +124,13 @@ module _ (all : Arena) (own : ℕ) (first : Indexed) (kept : Arena) (kept_own : 
   first-indexed (Err e) ranked = ranked
 
 -- records whose references are resolved
-pub settled-index : (all : Arena) (own : ℕ) (index : Indexed) (found : Settled) → length all.cells.items < 2 ^ 27 → IsKeptIndex all own index → found.arena.cells.items ≡ index.arena.cells.items
+pub settled-index : (all : Arena) (own : ℕ) (index : Indexed) (found : Settled) → IsKeptIndex all own index → found.arena.cells.items ≡ index.arena.cells.items
     → found.own ≡ index.own → AreSettled index.ranks index.arena.slots.items found.arena.slots.items
-    → ((rs : List CellRecord) → AreRanked rs index.ranks → IsOrder rs found.order.items) → IsSettled all own found
-settled-index all own index found few is cells own_is slots order = record {
+    → ((addresses : List ℕ) → AreRanked addresses index.ranks → IsOrder addresses found.order.items) → IsSettled all own found
+settled-index all own index found is cells own_is slots order = record {
   kept = index.arena;
   kept_is = subst (λ n. AreAllKept all own index.arena n ⊎ AreFirstKept all own index.arena n) (sym own_is) is.kept;
   cells_are = cells;
-  slots_are = slots index.arena.cells.items (let most = is.few_cells in omega (arith, few, most)) is.ranks_are;
-  order_is = order index.arena.cells.items is.ranks_are;
+  slots_are = slots (addresses_of index.arena.cells.items) is.ranks_are;
+  order_is = order (addresses_of index.arena.cells.items) is.ranks_are;
 }

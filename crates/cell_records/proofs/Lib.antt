@@ -1,4 +1,5 @@
 pub mod FirstFacts
 pub mod KeepingFacts
 pub mod OrderFacts
+pub mod RankFacts
 pub mod ResolvingFacts

@@ -9,12 +9,12 @@ use Rattle.std.proofs.lemmas.Option.{get_or_from_slice_get, slice_get_within, sl
 use Rattle.std.proofs.lemmas.Bool.{cases_eq}
 use Rattle.std.proofs.lemmas.Grind.{get_or-set_at}
 use Rattle.std.proofs.lemmas.List.{get_or_default, get_or-set_other, get_or-map, length-set, length-map, same_lists, append-nil}
-use Rattle.cell_records.specs.declared.cells.CellRecord.{CellRecord}
 use Rattle.cell_records.specs.declared.cells.Slot.{Slot}
 use Rattle.cell_records.specs.declared.cells.Slot.TheVariants as slot
-use Rattle.cell_records.specs.Order.{record_with, rank, AreRanked}
+use Rattle.cell_records.specs.Order.{number_with, AreRanked, AreSorted}
 use Rattle.cell_records.specs.Resolving.{settled}
-use Rattle.cell_records.specs.Inner.References.{reference_of, found_at, AreReferences, IsFirstFrom}
+use Rattle.cell_records.specs.Inner.References.{reference_of, found_at, AreReferences}
+use Rattle.cell_records.specs.Inner.Places.{IsFirstFrom}
 use Rattle.cell_records.proofs.OrderFacts.{lesser}
 
 -- those among the first slots
@@ -23,16 +23,16 @@ pub record AreFound (slots : List Slot) (references : List (ℕ × ℕ)) (upto :
   pub complete : (i address : ℕ) → i < upto → slice_get slots i ≡ Some (slot.Gone address) → Contains references (address, i)
 
 -- each slot is as it was or settled, and those of the first references are settled
-pub record AreResolving (rs : List CellRecord) (olds slots : List Slot) (references : List (ℕ × ℕ)) (upto : ℕ) : Type 0 where
+pub record AreResolving (xs : List ℕ) (olds slots : List Slot) (references : List (ℕ × ℕ)) (upto : ℕ) : Type 0 where
   pub count : length slots ≡ length olds
-  pub each : (i : ℕ) (d : Slot) → i < length olds → (get_or slots i d ≡ get_or olds i d) ⊎ (get_or slots i d ≡ settled rs (get_or olds i d))
-  pub over : (k : ℕ) (d : Slot) → k < upto → get_or slots (get_or references k (0, 0)).1 d ≡ settled rs (get_or olds (get_or references k (0, 0)).1 d)
+  pub each : (i : ℕ) (d : Slot) → i < length olds → (get_or slots i d ≡ get_or olds i d) ⊎ (get_or slots i d ≡ settled xs (get_or olds i d))
+  pub over : (k : ℕ) (d : Slot) → k < upto → get_or slots (get_or references k (0, 0)).1 d ≡ settled xs (get_or olds (get_or references k (0, 0)).1 d)
 
 -- the first references are settled, and the pairs in front of a place have lesser addresses than those that are left
 pub record IsMerging (pairs : List (ℕ × ℕ)) (olds slots : List Slot) (references : List (ℕ × ℕ)) (at k : ℕ) : Type 0 where
   pub within : at ≤ length pairs
   pub front : (i j : ℕ) → i < at → k ≤ j → j < length references → (get_or pairs i (0, 0)).0 < (get_or references j (0, 0)).0
-  pub resolving : (rs : List CellRecord) → length rs < 2 ^ 27 → AreRanked rs pairs → AreResolving rs olds slots references k
+  pub resolving : (xs : List ℕ) → AreRanked xs pairs → AreResolving xs olds slots references k
 
 -- ---- the references are found
 
@@ -66,37 +66,37 @@ found-all slots references i all found = record {
 -- ---- each slot is settled
 
 -- what is found of a reference is that it is settled
-found-settled : (rs : List CellRecord) (olds : List Slot) (address i : ℕ) (d : Slot) (number : Option ℕ) → slice_get olds i ≡ Some (slot.Gone address) → number ≡ record_with rs address
-    → option_map_or (λ n. slot.Cell (record { 0 = n })) number (slot.Gone address) ≡ settled rs (get_or olds i d)
-found-settled rs olds address i d number is found = ap (λ o. option_map_or (λ n. slot.Cell (record { 0 = n })) o (slot.Gone address)) found ∙ ap (settled rs) (sym (get_or_from_slice_get olds i (slot.Gone address) d is))
+found-settled : (xs : List ℕ) (olds : List Slot) (address i : ℕ) (d : Slot) (number : Option ℕ) → slice_get olds i ≡ Some (slot.Gone address) → number ≡ number_with xs address
+    → option_map_or (λ n. slot.Cell (record { 0 = n })) number (slot.Gone address) ≡ settled xs (get_or olds i d)
+found-settled xs olds address i d number is found = ap (λ o. option_map_or (λ n. slot.Cell (record { 0 = n })) o (slot.Gone address)) found ∙ ap (settled xs) (sym (get_or_from_slice_get olds i (slot.Gone address) d is))
 
 -- a further reference is settled, or stays as it was where no cell has its address
-module _ (rs : List CellRecord) (olds slots : List Slot) (references : List (ℕ × ℕ)) (k : ℕ) where
+module _ (xs : List ℕ) (olds slots : List Slot) (references : List (ℕ × ℕ)) (k : ℕ) where
   abbrev i : ℕ
   i = (get_or references k (0, 0)).1
 
   abbrev address : ℕ
   address = (get_or references k (0, 0)).0
 
-  pub resolving-more : (number : Option ℕ) → k < length references → AreReferences olds references → AreResolving rs olds slots references k → number ≡ record_with rs address
-      → AreResolving rs olds (found_at slots i number) references (k + 1)
+  pub resolving-more : (number : Option ℕ) → k < length references → AreReferences olds references → AreResolving xs olds slots references k → number ≡ number_with xs address
+      → AreResolving xs olds (found_at slots i number) references (k + 1)
   resolving-more None listed are before found = record {
     count = before.count;
     each = before.each;
-    over = λ j e. below_more (λ j. get_or slots (get_or references j (0, 0)).1 e ≡ settled rs (get_or olds (get_or references j (0, 0)).1 e)) k
+    over = λ j e. below_more (λ j. get_or slots (get_or references j (0, 0)).1 e ≡ settled xs (get_or olds (get_or references j (0, 0)).1 e)) k
         (λ j earlier. before.over j e earlier) (stays e (before.each i e (slice_get_within olds i (slot.Gone address) is))) j;
   }
     where
       is : slice_get olds i ≡ Some (slot.Gone address)
       is = are.sound k (0, 0) listed
 
-      stays : (e : Slot) → (get_or slots i e ≡ get_or olds i e) ⊎ (get_or slots i e ≡ settled rs (get_or olds i e)) → get_or slots i e ≡ settled rs (get_or olds i e)
-      stays e (inl same) = same ∙ get_or_from_slice_get olds i (slot.Gone address) e is ∙ found-settled rs olds address i e None is found
+      stays : (e : Slot) → (get_or slots i e ≡ get_or olds i e) ⊎ (get_or slots i e ≡ settled xs (get_or olds i e)) → get_or slots i e ≡ settled xs (get_or olds i e)
+      stays e (inl same) = same ∙ get_or_from_slice_get olds i (slot.Gone address) e is ∙ found-settled xs olds address i e None is found
       stays e (inr over) = over
   resolving-more (Some number) listed are before found = record {
     count = length-set slots i now ∙ before.count;
     each = λ j e within. ⊎_elim (λ same. inr (here j e same)) (λ other. let was = get_or-set_other slots i j now e other in rw was (before.each j e within)) (cases_eq j i);
-    over = λ j e. below_more (λ j. get_or (set slots i now) (get_or references j (0, 0)).1 e ≡ settled rs (get_or olds (get_or references j (0, 0)).1 e)) k
+    over = λ j e. below_more (λ j. get_or (set slots i now) (get_or references j (0, 0)).1 e ≡ settled xs (get_or olds (get_or references j (0, 0)).1 e)) k
         (λ j earlier. ⊎_elim (λ same. here (get_or references j (0, 0)).1 e same)
         (λ other. get_or-set_other slots i (get_or references j (0, 0)).1 now e other ∙ before.over j e earlier) (cases_eq (get_or references j (0, 0)).1 i)) (here i e refl) j;
   }
@@ -107,30 +107,30 @@ module _ (rs : List CellRecord) (olds slots : List Slot) (references : List (ℕ
       is : slice_get olds i ≡ Some (slot.Gone address)
       is = are.sound k (0, 0) listed
 
-      here : (j : ℕ) (e : Slot) → j ≡ i → get_or (set slots i now) j e ≡ settled rs (get_or olds j e)
+      here : (j : ℕ) (e : Slot) → j ≡ i → get_or (set slots i now) j e ≡ settled xs (get_or olds j e)
       here j e same =
           get_or-set_at slots i j now e same (let inside = slice_get_within olds i (slot.Gone address) is in omega (arith, inside, before.count))
-          ∙ found-settled rs olds address i e (Some number) is found ∙ ap (λ n. settled rs (get_or olds n e)) (sym same)
+          ∙ found-settled xs olds address i e (Some number) is found ∙ ap (λ n. settled xs (get_or olds n e)) (sym same)
 
 either : (s old now : Slot) → now ≡ old → (s ≡ old) ⊎ (s ≡ now) → s ≡ now
 either s old now same (inl was) = was ∙ sym same
 either s old now same (inr over) = over
 
-pub resolving-all : (rs : List CellRecord) (olds slots : List Slot) (references : List (ℕ × ℕ)) (k : ℕ) → AreReferences olds references → length references ≤ k
-    → AreResolving rs olds slots references k → slots ≡ map (settled rs) olds
-resolving-all rs olds slots references k are all resolving =
-    same_lists slots (map (settled rs) olds) (resolving.count ∙ sym (length-map olds (settled rs)))
+pub resolving-all : (xs : List ℕ) (olds slots : List Slot) (references : List (ℕ × ℕ)) (k : ℕ) → AreReferences olds references → length references ≤ k
+    → AreResolving xs olds slots references k → slots ≡ map (settled xs) olds
+resolving-all xs olds slots references k are all resolving =
+    same_lists slots (map (settled xs) olds) (resolving.count ∙ sym (length-map olds (settled xs)))
     (λ j d inside. let listed : j < length olds = omega (arith, inside, resolving.count) in
-    at j d listed (get_or olds j d) refl ∙ sym (get_or-map (settled rs) olds j d d listed))
+    at j d listed (get_or olds j d) refl ∙ sym (get_or-map (settled xs) olds j d d listed))
   where
-    at : (j : ℕ) (d : Slot) → j < length olds → (s : Slot) → get_or olds j d ≡ s → get_or slots j d ≡ settled rs (get_or olds j d)
+    at : (j : ℕ) (d : Slot) → j < length olds → (s : Slot) → get_or olds j d ≡ s → get_or slots j d ≡ settled xs (get_or olds j d)
     at j d listed (slot.Imm span) is = either _ _ _ (rw is refl) (resolving.each j d listed)
     at j d listed (slot.Cell ix) is = either _ _ _ (rw is refl) (resolving.each j d listed)
     at j d listed (slot.Gone address) is =
         let there = are.complete j address (slice_get-get_or olds j d listed ∙ ap Some is) in
         let place : (get_or references there.0 (0, 0)).1 ≡ j =
         ap (λ (r : ℕ × ℕ). r.1) (get_or_default references there.0 (0, 0) (address, j) there.1 ∙ there.2) in
-        subst (λ i. get_or slots i d ≡ settled rs (get_or olds i d)) place (resolving.over there.0 d (omega (arith, there.1, all)))
+        subst (λ i. get_or slots i d ≡ settled xs (get_or olds i d)) place (resolving.over there.0 d (omega (arith, there.1, all)))
 
 -- in another order
 pub references-moved : (slots : List Slot) (references sorted : List (ℕ × ℕ)) → AreReferences slots references → IsPermutation references sorted → AreReferences slots sorted
@@ -142,8 +142,8 @@ references-moved slots references sorted are moved = record {
 -- ---- the merge
 
 -- the addresses of references rise where they are ranked
-pub references-rise : (slots : List Slot) (references : List (ℕ × ℕ)) → length slots < 2 ^ 27 → AreReferences slots references
-    → IsNonDecreasingBy (λ (p : ℕ × ℕ). rank p.0 p.1) references → IsNonDecreasingBy (λ (p : ℕ × ℕ). p.0) references
+pub references-rise : (slots : List Slot) (references : List (ℕ × ℕ)) → length slots < 2 ^ 32 → AreReferences slots references
+    → AreSorted references → IsNonDecreasingBy (λ (p : ℕ × ℕ). p.0) references
 references-rise slots references few are sorted i j d up inside =
     lesser (get_or references i d).0 (get_or references j d).0 (get_or references i d).1 (get_or references j d).1 (place i (omega arith)) (place j inside) (sorted i j d up inside)
   where
@@ -152,10 +152,10 @@ references-rise slots references few are sorted i j d up inside =
 
 pub merging-more : (pairs : List (ℕ × ℕ)) (olds slots : List Slot) (references : List (ℕ × ℕ)) (at next k : ℕ) (number : Option ℕ) → k < length references → AreReferences olds references
     → IsNonDecreasingBy (λ (p : ℕ × ℕ). p.0) references → IsMerging pairs olds slots references at k → IsFirstFrom pairs (get_or references k (0, 0)).0 next
-    → ((rs : List CellRecord) → length rs < 2 ^ 27 → AreRanked rs pairs → number ≡ record_with rs (get_or references k (0, 0)).0)
+    → ((xs : List ℕ) → AreRanked xs pairs → number ≡ number_with xs (get_or references k (0, 0)).0)
     → IsMerging pairs olds (found_at slots (get_or references k (0, 0)).1 number) references next (k + 1)
 merging-more pairs olds slots references at next k number listed are rise before first found = record {
   within = first.within;
   front = λ i j earlier later inside. let less = first.front i earlier in let up = rise k j (0, 0) (omega arith) inside in omega (arith, less, up);
-  resolving = λ rs few ranked. resolving-more rs olds slots references k number listed are (before.resolving rs few ranked) (found rs few ranked);
+  resolving = λ xs ranked. resolving-more xs olds slots references k number listed are (before.resolving xs ranked) (found xs ranked);
 }

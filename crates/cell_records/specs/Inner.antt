@@ -1,4 +1,3 @@
-pub mod Firsts
 pub mod Keeping
 pub mod Places
 pub mod Ranks

@@ -1,10 +1,10 @@
 -- Keeping the first of the records with each address.
-use Rattle.std.specs.Prelude.{◌≡◌, ℕ, zero, suc, ◌<◌, true, List, [], ◌∷◌, ◌++◌, length, slice_get, if◌then◌else◌}
+use Rattle.std.specs.Prelude.{◌≡◌, ℕ, zero, suc, List, [], ◌∷◌, ◌++◌, length, slice_get, if◌then◌else◌}
 use Rattle.std.specs.Option.{option_map_or}
 use Rattle.cell_records.specs.declared.arena.Arena.{Arena}
 use Rattle.cell_records.specs.declared.cells.CellRecord.{CellRecord}
 use Rattle.cell_records.specs.declared.cells.Slot.{Slot}
-use Rattle.cell_records.specs.Order.{is_first}
+use Rattle.cell_records.specs.Order.{addresses_of, is_first, AreAllFirst}
 use Rattle.cell_records.specs.Slots.{slots_at}
 
 -- the record with a number, whose slots begin at this place; past the last one, none
@@ -17,11 +17,11 @@ abbrev pub kept_upto : List CellRecord → List Slot → ℕ → List CellRecord
 kept_upto records slots zero = ([], [])
 kept_upto records slots (suc n) =
     let kept = kept_upto records slots n in
-    if is_first records n then (kept.0 ++ moved_record records n (length kept.1), kept.1 ++ slots_at records slots n) else kept
+    if is_first (addresses_of records) n then (kept.0 ++ moved_record records n (length kept.1), kept.1 ++ slots_at records slots n) else kept
 
 -- each record is the first with its address, and all are kept as they are
 pub record AreAllKept (all : Arena) (own : ℕ) (kept : Arena) (kept_own : ℕ) : Type 0 where
-  pub first : (n : ℕ) → n < length all.cells.items → is_first all.cells.items n ≡ true
+  pub first : AreAllFirst (addresses_of all.cells.items)
   pub arena_is : kept ≡ all
   pub own_is : kept_own ≡ own
 

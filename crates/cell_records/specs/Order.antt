@@ -1,7 +1,6 @@
--- The records of a heap in the order of their addresses.
-use Rattle.std.specs.Prelude.{true, ◌≡◌, ℕ, ◌+◌, ◌*◌, ◌<◌, ◌==◌, Bool, not, List, length, take, slice_get, Option, All, Contains, position, ◌^◌}
+-- Numbers in the order of their addresses. What has an address has a number, its place in a list of addresses.
+use Rattle.std.specs.Prelude.{true, ◌≡◌, ℕ, ◌+◌, ◌*◌, ◌<◌, ◌==◌, Bool, not, List, length, map, take, slice_index_or, Option, All, Contains, position, ◌^◌}
 use Rattle.std.specs.List.{list_any}
-use Rattle.std.specs.Option.{option_map_or}
 use Rattle.std.specs.List.Sorted.{IsNonDecreasingBy}
 use Rattle.cell_records.specs.declared.cells.CellRecord.{CellRecord}
 
@@ -10,47 +9,62 @@ use Rattle.cell_records.specs.declared.cells.CellRecord.{CellRecord}
 abbrev pub rank : ℕ → ℕ → ℕ
 rank address number = address * 2 ^ 32 + number
 
--- the address of the record with a number; past the last one, 0
-abbrev pub address_in : List CellRecord → ℕ → ℕ
-address_in records n = option_map_or (λ r. r.address) (slice_get records n) 0
+-- the address with a number; past the last one, 0
+abbrev pub address_in : List ℕ → ℕ → ℕ
+address_in addresses n = slice_index_or addresses n 0
 
--- the numbers of all records, by address and then by number
-pub record IsOrder (records : List CellRecord) (order : List ℕ) : Type 0 where
-  pub within : All (λ n. n < length records) order
-  pub complete : (n : ℕ) → n < length records → Contains order n
-  pub sorted : IsNonDecreasingBy (λ n. rank (address_in records n) n) order
+-- all numbers, by address and then by number
+pub record IsOrder (addresses order : List ℕ) : Type 0 where
+  pub within : All (λ n. n < length addresses) order
+  pub complete : (n : ℕ) → n < length addresses → Contains order n
+  pub sorted : IsNonDecreasingBy (λ n. rank (address_in addresses n) n) order
 
--- the number of the first record with an address
-abbrev pub record_with : List CellRecord → ℕ → Option ℕ
-record_with records address = position (λ r. r.address == address) records
+-- the first number with an address
+abbrev pub number_with : List ℕ → ℕ → Option ℕ
+number_with addresses address = position (λ a. a == address) addresses
 
--- the record with a number comes before all others with its address
-abbrev pub is_first : List CellRecord → ℕ → Bool
-is_first records n = not (list_any (λ r. r.address == address_in records n) (take n records))
+-- a number comes before all others with its address
+abbrev pub is_first : List ℕ → ℕ → Bool
+is_first addresses n = not (list_any (λ a. a == address_in addresses n) (take n addresses))
 
--- a record's address and its number
-pub record IsRecordPair (records : List CellRecord) (pair : ℕ × ℕ) : Type 0 where
-  pub within : pair.1 < length records
-  pub address : address_in records pair.1 ≡ pair.0
+-- each number comes before all others with its address
+pub record AreAllFirst (addresses : List ℕ) : Type 0 where
+  pub each : (n : ℕ) → n < length addresses → is_first addresses n ≡ true
 
--- the pairs of all records, one of each
-pub record AreRecordPairs (records : List CellRecord) (pairs : List (ℕ × ℕ)) : Type 0 where
-  pub count : length pairs ≡ length records
-  pub each : All (IsRecordPair records) pairs
-  pub complete : (n : ℕ) → n < length records → Contains pairs (address_in records n, n)
+-- an address and its number
+pub record IsAddressPair (addresses : List ℕ) (pair : ℕ × ℕ) : Type 0 where
+  pub within : pair.1 < length addresses
+  pub address : address_in addresses pair.1 ≡ pair.0
 
--- the pairs of all records, sorted by address and then by number
-pub record AreRanked (records : List CellRecord) (pairs : List (ℕ × ℕ)) : Type 0 where
-  pub pairs_are : AreRecordPairs records pairs
-  pub sorted : IsNonDecreasingBy (λ pair. rank pair.0 pair.1) pairs
+-- the pairs of all addresses, one of each
+pub record AreAddressPairs (addresses : List ℕ) (pairs : List (ℕ × ℕ)) : Type 0 where
+  pub count : length pairs ≡ length addresses
+  pub each : All (IsAddressPair addresses) pairs
+  pub complete : (n : ℕ) → n < length addresses → Contains pairs (address_in addresses n, n)
 
--- the number that a look-up of an address in the pairs finds, of whichever records they are the pairs
+-- these pairs are sorted by address and then by number
+abbrev pub AreSorted : List (ℕ × ℕ) → Type 0
+AreSorted pairs = IsNonDecreasingBy (λ pair. rank pair.0 pair.1) pairs
+
+-- the pairs of all addresses, sorted, whose numbers have 32 bits
+pub record AreRanked (addresses : List ℕ) (pairs : List (ℕ × ℕ)) : Type 0 where
+  pub few : length addresses < 2 ^ 32
+  pub pairs_are : AreAddressPairs addresses pairs
+  pub sorted : AreSorted pairs
+
+-- these pairs are those of some addresses, sorted
+pub record IsRanking (pairs : List (ℕ × ℕ)) : Type 0 where
+  pub addresses : List ℕ
+  pub ranked : AreRanked addresses pairs
+
+-- the number that a look-up of an address in the pairs finds, of whichever addresses they are the pairs
 abbrev pub IsNumberIn : List (ℕ × ℕ) → ℕ → Option ℕ → Type 0
-IsNumberIn pairs address found =
-    (records : List CellRecord) → length records < 2 ^ 27 → AreRanked records pairs → found ≡ record_with records address
+IsNumberIn pairs address found = (addresses : List ℕ) → AreRanked addresses pairs → found ≡ number_with addresses address
 
--- of whichever records these are the pairs, each is the first with its address
-abbrev pub AreAllFirst : List (ℕ × ℕ) → Type 0
-AreAllFirst pairs =
-    (records : List CellRecord) → length records < 2 ^ 27 → AreRanked records pairs
-    → (n : ℕ) → n < length records → is_first records n ≡ true
+-- of whichever addresses these are the pairs, each number comes before all others with its address
+abbrev pub AreOfFirsts : List (ℕ × ℕ) → Type 0
+AreOfFirsts pairs = (addresses : List ℕ) → AreRanked addresses pairs → AreAllFirst addresses
+
+-- the addresses of records
+abbrev pub addresses_of : List CellRecord → List ℕ
+addresses_of records = map (λ r. r.address) records

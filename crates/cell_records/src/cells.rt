@@ -2,6 +2,8 @@
 ghost use Rattle.std.specs.Prelude.{◌≡◌};
 ghost use Rattle.cell_records.specs.Numbers.{number};
 
+use crate::located::Located;
+
 /// A cell of a heap, by its number.
 #[derive(Clone, Copy)]
 pub struct CellIx(u32);
@@ -84,4 +86,12 @@ pub struct CellRecord {
     pub first: u32,
     /// The kind of the form. If the text spells none, there is no kind.
     pub kind: Option<Kind>,
+}
+
+impl Located for CellRecord {
+    ghost address = { λ r. r.address };
+
+    fn address(&self) -> u64 {
+        self.address
+    }
 }

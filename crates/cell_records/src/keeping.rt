@@ -1,15 +1,16 @@
 // Keeping the first of the cells with each address.
 ghost use Rattle.std.specs.Prelude.{◌≡◌, ◌<◌, ◌≤◌, ◌^◌, ◌++◌, length, OnOk, IfOk};
 ghost use Rattle.cell_records.specs.Keeping.{moved_record};
-ghost use Rattle.cell_records.specs.Order.{AreRanked};
-ghost use Rattle.cell_records.specs.Inner.Firsts.{AreFirsts};
+ghost use Rattle.cell_records.specs.Order.{addresses_of, AreRanked};
+ghost use Rattle.cell_records.specs.Firsts.{AreFirsts};
 ghost use Rattle.cell_records.specs.Inner.Keeping.{IsKeeping, IsRankedArena, AreKept, IsKeptIndex};
 ghost use Rattle.cell_records.specs.Slots.{slots_at, AreOrdered};
 
 use crate::arena::{Arena, slots_of};
 use crate::cells::CellRecord;
-use crate::order::{mark_firsts, ranks_of};
-use crate::ranks::{Ranks, are_apart};
+use crate::firsts::{are_apart, firsts_of};
+use crate::order::ranks_of;
+use crate::ranks::Ranks;
 use std::alloc::{AllocError, Global};
 
 // Cells with the order of their addresses.
@@ -49,7 +50,7 @@ fn keep_part(
     upto: usize,
     kept: &mut Arena,
 ) -> Result<(), AllocError>
-    requires firsts { AreFirsts all.now.cells.items firsts.now }
+    requires firsts { AreFirsts (addresses_of all.now.cells.items) firsts.now }
     requires part { from ≤ upto }
     requires within { upto ≤ length all.now.cells.items }
     requires few { length all.now.slots.items < 2 ^ 32 }
@@ -73,7 +74,7 @@ fn keep_firsts(
     own: usize,
     kept: &mut Arena,
 ) -> Result<usize, AllocError>
-    requires firsts { AreFirsts all.now.cells.items firsts.now }
+    requires firsts { AreFirsts (addresses_of all.now.cells.items) firsts.now }
     requires own { own ≤ length all.now.cells.items }
     requires few { length all.now.slots.items < 2 ^ 32 }
     requires ordered { AreOrdered all.now.cells.items (length all.now.slots.items) }
@@ -89,7 +90,7 @@ fn keep_firsts(
 // The cells with their order by address.
 fn ranked(alloc: Global, arena: Arena, own: usize) -> Result<Indexed, AllocError>
     requires own { own < 2 ^ 32 }
-    requires few { length arena.cells.items < 2 ^ 27 }
+    requires few { length arena.cells.items < 2 ^ 32 }
     ensures { IfOk result (IsRankedArena arena own) }
 {
     let ranks = ranks_of(alloc, &arena.cells)?;
@@ -103,10 +104,10 @@ fn ranked(alloc: Global, arena: Arena, own: usize) -> Result<Indexed, AllocError
 // The cells that are the first with their address, and how many of them are the process's own.
 fn first_cells(alloc: Global, found: Indexed) -> Result<(Arena, usize), AllocError>
     requires own { found.own ≤ length found.arena.cells.items }
-    requires cells { length found.arena.cells.items < 2 ^ 27 }
+    requires cells { length found.arena.cells.items < 2 ^ 32 }
     requires slots { length found.arena.slots.items < 2 ^ 32 }
     requires ordered { AreOrdered found.arena.cells.items (length found.arena.slots.items) }
-    requires ranked { AreRanked found.arena.cells.items found.ranks }
+    requires ranked { AreRanked (addresses_of found.arena.cells.items) found.ranks }
     ensures { IfOk result (λ kept. AreKept found.arena found.own kept.0 kept.1) }
 {
     let Indexed {
@@ -114,7 +115,7 @@ fn first_cells(alloc: Global, found: Indexed) -> Result<(Arena, usize), AllocErr
         ranks,
         own,
     } = found;
-    let firsts = mark_firsts(alloc, ranks, &all.cells)?;
+    let firsts = firsts_of(alloc, ranks, &all.cells)?;
     let mut kept = Arena::new(alloc);
     let kept_own = keep_firsts(&all, &firsts, own as usize, &mut kept)?;
     Ok((kept, kept_own))
@@ -124,7 +125,7 @@ fn first_cells(alloc: Global, found: Indexed) -> Result<(Arena, usize), AllocErr
 // address. The first `own` of all cells are those of the process's own heap.
 pub(crate) fn index_cells(alloc: Global, all: Arena, own: usize) -> Result<Indexed, AllocError>
     requires own { own ≤ length all.cells.items }
-    requires cells { length all.cells.items < 2 ^ 27 }
+    requires cells { length all.cells.items < 2 ^ 32 }
     requires slots { length all.slots.items < 2 ^ 32 }
     requires ordered { AreOrdered all.cells.items (length all.slots.items) }
     ensures { IfOk result (IsKeptIndex all own) }

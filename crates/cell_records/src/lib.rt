@@ -3,8 +3,8 @@
 //! A cell is a [`CellRecord`], and each element of its form a [`Slot`]; all of a heap are an [`Arena`].
 //! [`settle`] keeps of the cells with one address the first, sorts the addresses that are left, and
 //! turns each reference into the cell that has the address, if there is one; [`number_of`] looks up
-//! a single address. What a cell's text says plays no part here. Every number of a cell or a slot has
-//! 27 bits, so that it fits beside an address into 64.
+//! a single address. What a cell's text says plays no part here. [`Ranks`] keeps a number beside an
+//! address in 64 bits as long as the addresses lie close together, and serves all that is [`Located`].
 //!
 //! ```text
 //! let Settled { arena, order, own } = settle(alloc, arena, own)?;
@@ -14,7 +14,9 @@
 
 mod arena;
 mod cells;
+mod firsts;
 mod keeping;
+mod located;
 mod order;
 mod ranks;
 mod resolving;
@@ -22,5 +24,8 @@ mod settling;
 
 pub use arena::{Arena, slots_of};
 pub use cells::{CellIx, CellRecord, Kind, Slot, Span, Why};
-pub use order::number_of;
+pub use firsts::{are_apart, firsts_of};
+pub use located::Located;
+pub use order::{number_near, number_of, ranks_of};
+pub use ranks::Ranks;
 pub use settling::{Settled, settle};

@@ -1,71 +1,110 @@
 // Pairs of an address and a number.
-ghost use Rattle.std.specs.Prelude.{◌≡◌, ◌<◌, ◌++◌, ◌∷◌, [], ℕ, List, length, map, slice_index_or, IfOk, OnOk, OnErr, IfSome, true, false, ◌+◌, ◌^◌};
+ghost use Rattle.std.specs.Prelude.{◌≡◌, ◌<◌, ◌≤◌, ◌++◌, ◌∷◌, [], ℕ, List, length, map, slice_index_or, IfOk, OnOk, OnErr, IfSome, ◌%◌, ◌^◌};
 ghost use Rattle.std.specs.List.Sorted.{IsNonDecreasingBy, IsPermutation};
-ghost use Rattle.cell_records.specs.declared.cells.CellRecord.{CellRecord};
-ghost use Rattle.cell_records.specs.Order.{rank, IsOrder, AreRanked, AreAllFirst};
-ghost use Rattle.cell_records.specs.Inner.Firsts.{AreApart};
-ghost use Rattle.cell_records.specs.Inner.Ranks.{pair_at};
+ghost use Rattle.cell_records.specs.Order.{IsNumberIn, IsOrder, IsRanking, AreRanked, AreSorted};
+ghost use Rattle.cell_records.specs.Inner.Places.{IsFirstFrom};
+ghost use Rattle.cell_records.specs.Inner.Ranks.{pair_at, reach, IsSplit};
 
 use std::alloc::{AllocError, Global};
 use std::marker::Model;
 
-// Every number has 27 bits.
-const NUMBERS: u64 = 1 << 27;
-
-// An address less than this above the base fits into 64 bits together with its number.
-const REACH: u64 = 1 << 37;
-
-// In 64 bits each, as long as all addresses are in reach of a base; otherwise as they are.
+// In 64 bits each, as long as all pairs fit; otherwise as they are.
 #[derive(Drop)]
 enum Kept {
     Narrow(Vec<u64>),
     Wide(Vec<(u64, u32)>),
 }
 
-// Pairs of an address and a number. The addresses of one heap mostly lie close together; the pairs
-// are then stored and sorted in half the memory. Contracts see the list of the pairs.
+/// Pairs of an address and a number. The addresses of one heap mostly lie close together; the pairs
+/// are then stored and sorted in half the memory. Contracts see the list of the pairs.
 #[derive(Drop)]
-pub(crate) struct Ranks {
+pub struct Ranks {
     base: u64,
+    // How many of the 64 bits of a pair are those of its number.
+    bits: u32,
     kept: Kept,
 }
 
 impl Model for Ranks {
-    ghost use Rattle.std.specs.Prelude.{ℕ, List, ◌+◌, ◌<◌, ◌^◌};
-    ghost use Rattle.cell_records.specs.Inner.Ranks.{pairs_in, AreNumbered};
+    ghost use Rattle.std.specs.Prelude.{ℕ, List};
+    ghost use Rattle.cell_records.specs.Inner.Ranks.{pairs_in, AreNumbered, IsSplit};
 
     ghost Value = { List (ℕ × ℕ) };
 
-    ghost view = { λ r. pairs_in r.base r.kept };
+    ghost view = { λ r. pairs_in r.base r.bits r.kept };
 
-    ghost invariant = { λ r. (r.base + 2 ^ 37 < 2 ^ 64) × AreNumbered r.kept };
+    ghost invariant = { λ r. IsSplit r.base r.bits × AreNumbered r.kept };
 }
 
-fn pair_at(base: u64, rank: u64) -> (u64, u32)
-    requires { base + 2 ^ 37 < 2 ^ 64 }
-    ensures { result ≡ pair_at base rank }
+// How many bits the numbers below a bound have, but no more than 32.
+fn bits_of(bound: usize) -> u32
+    ensures { result ≤ 32 }
 {
-    (base + rank / NUMBERS, (rank % NUMBERS) as u32)
+    match u32::try_from(bound.saturating_sub(1)) {
+        Ok(most) => 32 - most.leading_zeros(),
+        Err(_) => 32,
+    }
 }
 
-// The pair as one number, if its address is in reach of the base.
-fn rank_of(base: u64, address: u64, number: u32) -> Option<u64>
-    requires { number < 2 ^ 27 }
-    ensures { IfSome result (λ rank. pair_at base rank ≡ (address, number)) }
+// How far above a base an address may lie, if its number has so many bits.
+fn reach(bits: u32) -> u64
+    requires { bits ≤ 32 }
+    ensures { result ≡ reach bits }
+{
+    u64::MAX >> bits
+}
+
+// The base of addresses around this one.
+fn base_around(address: u64, bits: u32) -> u64
+    requires { bits ≤ 32 }
+    ensures { IsSplit result bits }
+{
+    let reach = reach(bits);
+    address.saturating_sub(reach / 2).min(u64::MAX - reach)
+}
+
+// The lowest bits of a number.
+fn low_bits(rank: u64, bits: u32) -> u32
+    requires { bits ≤ 32 }
+    ensures { result ≡ rank % 2 ^ bits }
+{
+    (rank & ((1 << bits) - 1)) as u32
+}
+
+fn pair_at(base: u64, bits: u32, rank: u64) -> (u64, u32)
+    requires { IsSplit base bits }
+    ensures { result ≡ pair_at base bits rank }
+{
+    (base + (rank >> bits), low_bits(rank, bits))
+}
+
+// The pair as one number, if it fits.
+fn rank_of(base: u64, bits: u32, address: u64, number: u32) -> Option<u64>
+    requires { IsSplit base bits }
+    ensures { IfSome result (λ rank. pair_at base bits rank ≡ (address, number)) }
 {
     let above = address.checked_sub(base)?;
-    if above < REACH {
-        Some(above * NUMBERS + u64::from(number))
+    let low = u64::from(number);
+    if above <= reach(bits) && low >> bits == 0 {
+        Some(above << bits | low)
     } else {
         None
     }
 }
 
-fn pairs_at(alloc: Global, base: u64, ranks: &[u64]) -> Result<Vec<(u64, u32)>, AllocError>
-    requires { base + 2 ^ 37 < 2 ^ 64 }
-    ensures { IfOk result (λ pairs. pairs.items ≡ map (pair_at base) ranks.now) }
+fn pairs_at(
+    alloc: Global,
+    base: u64,
+    bits: u32,
+    ranks: &[u64],
+) -> Result<Vec<(u64, u32)>, AllocError>
+    requires { IsSplit base bits }
+    ensures { IfOk result (λ pairs. pairs.items ≡ map (pair_at base bits) ranks.now) }
 {
-    ranks.iter().map(|rank| pair_at(base, *rank)).collect(alloc)
+    ranks
+        .iter()
+        .map(|rank| pair_at(base, bits, *rank))
+        .collect(alloc)
 }
 
 fn append<T: Drop>(values: &mut Vec<T>, value: T) -> Result<(), AllocError>
@@ -80,31 +119,70 @@ fn append<T: Drop>(values: &mut Vec<T>, value: T) -> Result<(), AllocError>
 fn widened(
     alloc: Global,
     base: u64,
+    bits: u32,
     ranks: &[u64],
     pair: (u64, u32),
 ) -> Result<Vec<(u64, u32)>, AllocError>
-    requires { base + 2 ^ 37 < 2 ^ 64 }
-    ensures { IfOk result (λ pairs. pairs.items ≡ map (pair_at base) ranks.now ++ pair ∷ []) }
+    requires { IsSplit base bits }
+    ensures { IfOk result (λ pairs. pairs.items ≡ map (pair_at base bits) ranks.now ++ pair ∷ []) }
 {
-    let mut pairs = pairs_at(alloc, base, ranks)?;
+    let mut pairs = pairs_at(alloc, base, bits, ranks)?;
     append(&mut pairs, pair)?;
     Ok(pairs)
 }
 
+// How many of the pairs, whose addresses ascend, have a lower address: these come first.
+fn first_at(ranks: &Ranks, address: u64) -> usize
+    requires { IsNonDecreasingBy (λ pair. pair.0) ranks.now }
+    ensures { IsFirstFrom ranks.now address result }
+{
+    let mut from = 0;
+    let mut upto = ranks.len();
+    while from < upto {
+        let middle = from + (upto - from) / 2;
+        if ranks.get(middle).0 < address {
+            from = middle + 1;
+        } else {
+            upto = middle;
+        }
+    }
+    from
+}
+
+// The number of the first cell with the address, whose pair would be at the place.
+pub(crate) fn number_there(ranks: &Ranks, at: usize, address: u64) -> Option<u32>
+    requires { IsFirstFrom ranks.now address at }
+    ensures { IsNumberIn ranks.now address result }
+{
+    if at == ranks.len() {
+        return None;
+    }
+    let (found, number) = ranks.get(at);
+    if found == address { Some(number) } else { None }
+}
+
 impl Ranks {
-    // No pairs, and room for `count` of them whose addresses lie around this one.
-    pub(crate) fn around(alloc: Global, address: u64, count: usize) -> Result<Ranks, AllocError>
+    /// No pairs, and room for `room` of them. Pairs whose numbers are below a bound, and whose
+    /// addresses lie around this one, take 8 bytes each; other pairs make all take 16.
+    pub fn around(
+        alloc: Global,
+        address: u64,
+        bound: usize,
+        room: usize,
+    ) -> Result<Ranks, AllocError>
         ensures { IfOk result (λ ranks. ranks ≡ []) }
     {
-        let base = address.saturating_sub(REACH / 2).min(u64::MAX - REACH);
-        let ranks = Vec::with_capacity(alloc, count)?;
+        let bits = bits_of(bound);
+        let ranks = Vec::with_capacity(alloc, room)?;
         Ok(Ranks {
-            base,
+            base: base_around(address, bits),
+            bits,
             kept: Kept::Narrow(ranks),
         })
     }
 
-    pub(crate) fn len(&self) -> usize
+    /// The number of pairs.
+    pub fn len(&self) -> usize
         ensures { result ≡ length self.now }
     {
         match &self.kept {
@@ -113,32 +191,27 @@ impl Ranks {
         }
     }
 
-    pub(crate) fn get(&self, i: usize) -> (u64, u32)
+    /// The pair at a place.
+    pub fn get(&self, i: usize) -> (u64, u32)
         requires { i < length self.now }
         ensures { result ≡ slice_index_or self.now i (0, 0) }
     {
         match &self.kept {
-            Kept::Narrow(ranks) => pair_at(self.base, ranks[i]),
+            Kept::Narrow(ranks) => pair_at(self.base, self.bits, ranks[i]),
             Kept::Wide(pairs) => pairs[i],
         }
     }
 
-    // Appends a pair. If its address is out of reach, all are stored as they are from then on.
-    pub(crate) fn push(
-        &mut self,
-        alloc: Global,
-        address: u64,
-        number: u32,
-    ) -> Result<(), AllocError>
-        requires { number < 2 ^ 27 }
+    /// Appends a pair. If it doesn't fit into 8 bytes, all are stored as they are from then on.
+    pub fn push(&mut self, alloc: Global, address: u64, number: u32) -> Result<(), AllocError>
         ensures { OnOk result (self.new ≡ self.old ++ (address, number) ∷ []) }
     {
         match &mut self.kept {
             Kept::Wide(pairs) => append(pairs, (address, number)),
-            Kept::Narrow(ranks) => match rank_of(self.base, address, number) {
+            Kept::Narrow(ranks) => match rank_of(self.base, self.bits, address, number) {
                 Some(rank) => append(ranks, rank),
                 None => {
-                    let pairs = widened(alloc, self.base, ranks, (address, number))?;
+                    let pairs = widened(alloc, self.base, self.bits, ranks, (address, number))?;
                     self.kept = Kept::Wide(pairs);
                     Ok(())
                 }
@@ -146,10 +219,10 @@ impl Ranks {
         }
     }
 
-    // Sorts the pairs by address, and those with the same address by number.
-    pub(crate) fn sort(&mut self)
+    /// Sorts the pairs by address, and those with the same address by number.
+    pub fn sort(&mut self)
         ensures permutation { IsPermutation self.old self.new }
-        ensures sorted { IsNonDecreasingBy (λ pair. rank pair.0 pair.1) self.new }
+        ensures sorted { AreSorted self.new }
     {
         match &mut self.kept {
             Kept::Narrow(ranks) => ranks.sort_unstable(),
@@ -157,11 +230,19 @@ impl Ranks {
         }
     }
 
-    // The numbers of the pairs. Those of ranked cells are the cells' numbers in the order of their addresses.
-    pub(crate) fn numbers(&self, alloc: Global) -> Result<Vec<u32>, AllocError>
+    /// The number of the first pair with an address. Of ranked cells it is the first cell with that address.
+    pub fn find(&self, address: u64) -> Option<u32>
+        requires { IsRanking self.now }
+        ensures { IsNumberIn self.now address result }
+    {
+        number_there(self, first_at(self, address), address)
+    }
+
+    /// The numbers of the pairs. Those of ranked cells are the cells' numbers in the order of their addresses.
+    pub fn numbers(&self, alloc: Global) -> Result<Vec<u32>, AllocError>
         ensures numbers { IfOk result (λ numbers. numbers.items ≡ map (λ pair. pair.1) self.now) }
-        ensures order { IfOk result (λ numbers. (cells : List CellRecord)
-            → AreRanked cells self.now → IsOrder cells numbers.items) }
+        ensures order { IfOk result (λ numbers. (addresses : List ℕ)
+            → AreRanked addresses self.now → IsOrder addresses numbers.items) }
     {
         let mut numbers = Vec::with_capacity(alloc, self.len())?;
         for i in 0..self.len() {
@@ -169,19 +250,4 @@ impl Ranks {
         }
         Ok(numbers)
     }
-}
-
-// Whether no two adjacent pairs have the same address. If they are
-// those of cells, each cell is then the first with its address.
-pub(crate) fn are_apart(ranks: &Ranks) -> bool
-    ensures apart { result ≡ true → AreApart ranks.now }
-    ensures beside { result ≡ false → AreApart ranks.now → ⊥ }
-    ensures first { result ≡ true → AreAllFirst ranks.now }
-{
-    for i in 1..ranks.len() {
-        if ranks.get(i - 1).0 == ranks.get(i).0 {
-            return false;
-        }
-    }
-    true
 }

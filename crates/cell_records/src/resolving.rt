@@ -1,12 +1,12 @@
 // Resolving references to the cells that they lead to.
 ghost use Rattle.std.specs.Prelude.{◌≡◌, ℕ, ◌<◌, ◌≤◌, ◌++◌, length, slice_index_or, IfOk, OnOk, ◌^◌, []};
 ghost use Rattle.std.specs.List.Sorted.{IsNonDecreasingBy};
-ghost use Rattle.cell_records.specs.Order.{IsNumberIn};
 ghost use Rattle.cell_records.specs.Resolving.{AreSettled};
-ghost use Rattle.cell_records.specs.Inner.References.{reference_of, found_at, AreReferences, IsFirstFrom};
+ghost use Rattle.cell_records.specs.Inner.Places.{IsFirstFrom};
+ghost use Rattle.cell_records.specs.Inner.References.{reference_of, found_at, AreReferences};
 
 use crate::cells::{CellIx, Slot};
-use crate::ranks::Ranks;
+use crate::ranks::{Ranks, number_there};
 use std::alloc::{AllocError, Global};
 
 fn push_reference(
@@ -15,7 +15,6 @@ fn push_reference(
     slot: Slot,
     place: u32,
 ) -> Result<(), AllocError>
-    requires { place < 2 ^ 27 }
     ensures { OnOk result (references.new ≡ references.old ++ reference_of slot place) }
 {
     if let Slot::Gone(address) = slot {
@@ -33,7 +32,7 @@ fn first_address(ranks: &Ranks) -> u64
 
 // Appends the address of each slot that is a reference, with the place of the slot.
 fn push_references(alloc: Global, references: &mut Ranks, slots: &[Slot]) -> Result<(), AllocError>
-    requires few { length slots.now < 2 ^ 27 }
+    requires few { length slots.now < 2 ^ 32 }
     requires none { references.old ≡ [] }
     ensures { OnOk result (AreReferences slots.now references.new) }
 {
@@ -45,10 +44,10 @@ fn push_references(alloc: Global, references: &mut Ranks, slots: &[Slot]) -> Res
 
 // The address of each slot that is a reference, with the place of the slot.
 fn references_of(alloc: Global, slots: &[Slot], ranks: &Ranks) -> Result<Ranks, AllocError>
-    requires { length slots.now < 2 ^ 27 }
+    requires { length slots.now < 2 ^ 32 }
     ensures { IfOk result (AreReferences slots.now) }
 {
-    let mut references = Ranks::around(alloc, first_address(ranks), 0)?;
+    let mut references = Ranks::around(alloc, first_address(ranks), slots.len(), 0)?;
     push_references(alloc, &mut references, slots)?;
     Ok(references)
 }
@@ -64,18 +63,6 @@ fn first_from(ranks: &Ranks, from: usize, address: u64) -> usize
         at += 1;
     }
     at
-}
-
-// The number of the first cell with the address, whose pair would be at the place.
-fn number_there(ranks: &Ranks, at: usize, address: u64) -> Option<u32>
-    requires { IsFirstFrom ranks.now address at }
-    ensures { IsNumberIn ranks.now address result }
-{
-    if at == ranks.len() {
-        return None;
-    }
-    let (found, number) = ranks.get(at);
-    if found == address { Some(number) } else { None }
 }
 
 fn put_cell(slots: &mut [Slot], place: usize, number: Option<u32>)
@@ -104,7 +91,7 @@ fn resolve_each(slots: &mut [Slot], references: &Ranks, ranks: &Ranks)
 
 // Makes each reference to the address of a cell that cell, if there is memory.
 fn resolve_part(alloc: Global, slots: &mut [Slot], ranks: &Ranks) -> Result<(), AllocError>
-    requires { length slots.old < 2 ^ 27 }
+    requires { length slots.old < 2 ^ 32 }
     ensures { OnOk result (AreSettled ranks.now slots.old slots.new) }
 {
     let mut references = references_of(alloc, slots, ranks)?;
@@ -120,7 +107,7 @@ fn resolve_parts(
     ranks: &Ranks,
     halvings: u32,
 ) -> Result<(), AllocError>
-    requires { length slots.old < 2 ^ 27 }
+    requires { length slots.old < 2 ^ 32 }
     ensures { OnOk result (AreSettled ranks.now slots.old slots.new) }
 {
     if halvings == 0 {
@@ -135,7 +122,7 @@ fn resolve_parts(
 // Makes each reference to the address of a cell that cell, if there is memory. The pairs
 // are the addresses of the cells with their numbers, sorted.
 pub(crate) fn resolve(alloc: Global, slots: &mut Vec<Slot>, ranks: &Ranks) -> Result<(), AllocError>
-    requires { length slots.old.items < 2 ^ 27 }
+    requires { length slots.old.items < 2 ^ 32 }
     ensures { OnOk result (AreSettled ranks.now slots.old.items slots.new.items) }
 {
     resolve_parts(alloc, slots, ranks, 2)

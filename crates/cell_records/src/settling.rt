@@ -24,8 +24,8 @@ pub struct Settled {
 /// first `own` of all cells are those of the process's own heap.
 pub fn settle(alloc: Global, all: Arena, own: usize) -> Result<Settled, AllocError>
     requires own { own ≤ length all.cells.items }
-    requires cells { length all.cells.items < 2 ^ 27 }
-    requires slots { length all.slots.items < 2 ^ 27 }
+    requires cells { length all.cells.items < 2 ^ 32 }
+    requires slots { length all.slots.items < 2 ^ 32 }
     requires ordered { AreOrdered all.cells.items (length all.slots.items) }
     ensures { IfOk result (IsSettled all own) }
 {

@@ -25,7 +25,7 @@ use Rattle.heap_cells.specs.Inner.Gathering.{AreAll}
 use Rattle.heap_cells.specs.Inner.Keeping.{IsIndexed, IsSettledHeap}
 use Rattle.heap_cells.specs.Inner.Texts.{text_of, seam_of}
 use Rattle.cell_records.specs.Settling.{IsSettled}
-use Rattle.cell_records.specs.Order.{record_with}
+use Rattle.cell_records.specs.Order.{addresses_of, number_with}
 use Rattle.cell_records.specs.Slots.{start_at, slots_at, AreOrdered}
 use Rattle.heap_cells.specs.Inner.Records.{cell_in, cells_in, elements_by, AreLaid, AreSlots, Spells, AllSpell, IsArena}
 use Rattle.cell_records.specs.Resolving.{settled}
@@ -112,19 +112,19 @@ found-target : (address : ℕ) (found : Option ℕ) → slot_target (option_map_
 found-target address None = refl
 found-target address (Some n) = refl
 
-slot-settled : (rs : List CellRecord) (known : List Cell) (s : Slot) → ((address : ℕ) → record_with rs address ≡ number_at known address)
-    → slot_target (settled rs s) ≡ settled_target known (slot_target s)
+slot-settled : (xs : List ℕ) (known : List Cell) (s : Slot) → ((address : ℕ) → number_with xs address ≡ number_at known address)
+    → slot_target (settled xs s) ≡ settled_target known (slot_target s)
 unfolding settled_target
-slot-settled rs known (slot.Imm span) same = refl
-slot-settled rs known (slot.Cell ix) same = refl
-slot-settled rs known (slot.Gone address) same = found-target address (record_with rs address) ∙ ap (target_at address) (same address)
+slot-settled xs known (slot.Imm span) same = refl
+slot-settled xs known (slot.Cell ix) same = refl
+slot-settled xs known (slot.Gone address) same = found-target address (number_with xs address) ∙ ap (target_at address) (same address)
 
-slots-settled : (rs : List CellRecord) (known : List Cell) (slots : List Slot) → ((address : ℕ) → record_with rs address ≡ number_at known address)
-    → map slot_target (map (settled rs) slots) ≡ map (settled_target known) (map slot_target slots)
-slots-settled rs known [] same = refl
-slots-settled rs known (s ∷ slots) same =
-    ap (λ t. t ∷ map slot_target (map (settled rs) slots)) (slot-settled rs known s same)
-    ∙ ap (λ ts. settled_target known (slot_target s) ∷ ts) (slots-settled rs known slots same)
+slots-settled : (xs : List ℕ) (known : List Cell) (slots : List Slot) → ((address : ℕ) → number_with xs address ≡ number_at known address)
+    → map slot_target (map (settled xs) slots) ≡ map (settled_target known) (map slot_target slots)
+slots-settled xs known [] same = refl
+slots-settled xs known (s ∷ slots) same =
+    ap (λ t. t ∷ map slot_target (map (settled xs) slots)) (slot-settled xs known s same)
+    ∙ ap (λ ts. settled_target known (slot_target s) ∷ ts) (slots-settled xs known slots same)
 
 element-settled : (known : List Cell) (e : Element) → settled_target known (target [] e) ≡ target known e
 unfolding settled_target
@@ -140,20 +140,20 @@ found-spells : (text : List ℕ) (seam address : ℕ) (found : Option ℕ) (e : 
 found-spells text seam address None e = tt
 found-spells text seam address (Some n) e = tt
 
-spells-settled : (text : List ℕ) (seam : ℕ) (rs : List CellRecord) (s : Slot) (e : Element) → Spells text seam s e → Spells text seam (settled rs s) e
-spells-settled text seam rs (slot.Imm span) e is = is
-spells-settled text seam rs (slot.Cell ix) e is = tt
-spells-settled text seam rs (slot.Gone address) e is = found-spells text seam address (record_with rs address) e
+spells-settled : (text : List ℕ) (seam : ℕ) (xs : List ℕ) (s : Slot) (e : Element) → Spells text seam s e → Spells text seam (settled xs s) e
+spells-settled text seam xs (slot.Imm span) e is = is
+spells-settled text seam xs (slot.Cell ix) e is = tt
+spells-settled text seam xs (slot.Gone address) e is = found-spells text seam address (number_with xs address) e
 
 some-mapped : (f : Slot → Slot) (o : Option Slot) (s : Slot) → option_map f o ≡ Some s → (old : Slot) × (o ≡ Some old) × (f old ≡ s)
 some-mapped f None s is = cc
 some-mapped f (Some old) s is = (old, refl, cc)
 
-spell-settled : (text : List ℕ) (seam : ℕ) (rs : List CellRecord) (slots : List Slot) (es : List Element) → AllSpell text seam slots es
-    → AllSpell text seam (map (settled rs) slots) es
-spell-settled text seam rs slots es all k s e slot_is element_is =
-    let old = some-mapped (settled rs) (slice_get slots k) s (sym (slice_get-map (settled rs) slots k) ∙ slot_is) in
-    subst (λ (x : Slot). Spells text seam x e) old.2 (spells-settled text seam rs old.0 e (all k old.0 e old.1 element_is))
+spell-settled : (text : List ℕ) (seam : ℕ) (xs : List ℕ) (slots : List Slot) (es : List Element) → AllSpell text seam slots es
+    → AllSpell text seam (map (settled xs) slots) es
+spell-settled text seam xs slots es all k s e slot_is element_is =
+    let old = some-mapped (settled xs) (slice_get slots k) s (sym (slice_get-map (settled xs) slots k) ∙ slot_is) in
+    subst (λ (x : Slot). Spells text seam x e) old.2 (spells-settled text seam xs old.0 e (all k old.0 e old.1 element_is))
 
 slots_at-map : (f : Slot → Slot) (rs : List CellRecord) (slots : List Slot) (i : ℕ) → slots_at rs (map f slots) i ≡ map f (slots_at rs slots i)
 slots_at-map f rs slots i =
@@ -164,15 +164,16 @@ slots_at-map f rs slots i =
     ∙ take-map f (upto - from) (drop from slots)
 
 pub AreSlots-settled : (text : List ℕ) (seam : ℕ) (enc : Enc) (rs : List CellRecord) (slots : List Slot) → AreSlots text seam enc [] rs slots
-    → AreSlots text seam enc (cells_in text enc rs) rs (map (settled rs) slots)
+    → AreSlots text seam enc (cells_in text enc rs) rs (map (settled (addresses_of rs)) slots)
 AreSlots-settled text seam enc rs slots are =
     let known = cells_in text enc rs in
+    let xs = addresses_of rs in
     record {
-      laid = subst (AreLaid text seam enc 0 rs) (sym (length-map slots (settled rs))) are.laid;
-      targets = slots-settled rs known slots (λ address. number-at text enc rs known address refl)
+      laid = subst (AreLaid text seam enc 0 rs) (sym (length-map slots (settled xs))) are.laid;
+      targets = slots-settled xs known slots (λ address. number-at text enc rs known address refl)
           ∙ ap (map (settled_target known)) are.targets ∙ elements-settled known (flat_map (elements_by text enc) rs);
-      spelled = λ i r is. subst (λ l. AllSpell text seam l (elements_by text enc r)) (sym (slots_at-map (settled rs) rs slots i))
-          (spell-settled text seam rs (slots_at rs slots i) (elements_by text enc r) (are.spelled i r is));
+      spelled = λ i r is. subst (λ l. AllSpell text seam l (elements_by text enc r)) (sym (slots_at-map (settled xs) rs slots i))
+          (spell-settled text seam xs (slots_at rs slots i) (elements_by text enc r) (are.spelled i r is));
     }
 
 -- ---- the heap of two bodies
@@ -234,7 +235,7 @@ module _ (texts : Texts) (g : Gathering) (own : ℕ) (found : Settled) (whole : 
     size = omega (arith, literals, length-append texts.heap.items texts.literals.items);
     own_is = let most = first-few (cells_in text enc g.arena.cells.items) own in
         omega (arith, index.own_is, most, ap length index.kept_is.cells_are, length-map is.kept.cells.items (cell_in text enc));
-    few = omega (arith, few-kept, ap length is.slots_are, length-map is.kept.slots.items (settled is.kept.cells.items));
+    few = omega (arith, few-kept, ap length is.slots_are, length-map is.kept.slots.items (settled (addresses_of is.kept.cells.items)));
     distinct = subst (λ l. IsDistinct nat_eq (addresses l)) (sym cells-kept) (first-distinct [] (all_lines texts));
     slots_are = subst (AreSlots text (seam_of texts) enc (cells_in text enc is.kept.cells.items) is.kept.cells.items) (sym is.slots_are)
         (AreSlots-settled text (seam_of texts) enc is.kept.cells.items is.kept.slots.items index.kept_is.slots_are);

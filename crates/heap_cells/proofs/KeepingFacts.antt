@@ -4,7 +4,7 @@ use Rattle.std.specs.Prelude.{slice_get}
 use Rattle.std.specs.List.{list_any}
 use Rattle.std.specs.Option.{option_map_or}
 use Rattle.std.proofs.Math.Seq.{take-length}
-use Rattle.std.proofs.lemmas.List.{take_more, length-map, map-append, take-map, length-take, append-nil}
+use Rattle.std.proofs.lemmas.List.{get_or-map, take_more, length-map, map-append, take-map, length-take, append-nil}
 use Rattle.std.proofs.lemmas.Option.{get_or_from_slice_get, slice_get_within}
 use Rattle.binary_payloads.specs.declared.enc.Enc.{Enc}
 use Rattle.cell_records.specs.declared.arena.Arena.{Arena}
@@ -13,7 +13,7 @@ use Rattle.cell_records.specs.declared.cells.Slot.{Slot}
 use Rattle.cell_records.specs.Keeping.{moved_record, kept_upto, AreAllKept, AreFirstKept}
 use Rattle.heap_cells.specs.Cells.{Cell, first_cells, addresses}
 use Rattle.heap_cells.specs.Inner.Keeping.{IsKept, IsIndexed}
-use Rattle.cell_records.specs.Order.{address_in, is_first}
+use Rattle.cell_records.specs.Order.{address_in, addresses_of, is_first, AreAllFirst}
 use Rattle.heap_cells.specs.Inner.Records.{cell_in, cells_in, AreSlots}
 use Rattle.cell_records.specs.Slots.{slots_at}
 use Rattle.heap_cells.proofs.PushingFacts.{AreSlots-push}
@@ -43,13 +43,18 @@ first_cells-push seen (other ∷ cells) cell =
 
 -- whether the cell of a record is seen before it
 seen-first : (text : List ℕ) (enc : Enc) (rs : List CellRecord) (i : ℕ) (r : CellRecord) → slice_get rs i ≡ Some r
-    → is_seen (addresses (take i (cells_in text enc rs))) (cell_in text enc r) ≡ not (is_first rs i)
+    → is_seen (addresses (take i (cells_in text enc rs))) (cell_in text enc r) ≡ not (is_first (addresses_of rs) i)
 seen-first text enc rs i r is =
+    let xs = addresses_of rs in
+    let here : address_in xs i ≡ r.address =
+    get_or-map (λ (x : CellRecord). x.address) rs i r 0 (slice_get_within rs i r is) ∙ ap (λ (x : CellRecord). x.address) (get_or_from_slice_get rs i r r is) in
     ap (λ l. list_any (λ address. address == r.address) (addresses l)) (take-map (cell_in text enc) i rs)
     ∙ list_any-map (λ address. address == r.address) (λ (cell : Cell). cell.address) (map (cell_in text enc) (take i rs))
     ∙ list_any-map (λ (cell : Cell). cell.address == r.address) (cell_in text enc) (take i rs)
-    ∙ ap (λ a. list_any (λ (x : CellRecord). x.address == a) (take i rs)) (sym (ap (λ (o : Option CellRecord). option_map_or (λ x. x.address) o 0) is))
-    ∙ sym (not-not (list_any (λ (x : CellRecord). x.address == address_in rs i) (take i rs)))
+    ∙ sym (list_any-map (λ a. a == r.address) (λ (x : CellRecord). x.address) (take i rs))
+    ∙ ap (list_any (λ a. a == r.address)) (sym (take-map (λ (x : CellRecord). x.address) i rs))
+    ∙ ap (λ b. list_any (λ a. a == b) (take i xs)) (sym here)
+    ∙ sym (not-not (list_any (λ a. a == address_in xs i) (take i xs)))
 
 cond-not : (b : Bool) (cell : Cell) → cond (not b) [] (cell ∷ []) ≡ cond b (cell ∷ []) []
 cond-not true cell = refl
@@ -58,7 +63,7 @@ cond-not false cell = refl
 -- one more cell, which is kept where it is the first with its address
 pub first_cells-more : (text : List ℕ) (enc : Enc) (rs : List CellRecord) (i : ℕ) (r : CellRecord) → slice_get rs i ≡ Some r
     → first_cells [] (take (i + 1) (cells_in text enc rs))
-    ≡ first_cells [] (take i (cells_in text enc rs)) ++ cond (is_first rs i) (cell_in text enc r ∷ []) []
+    ≡ first_cells [] (take i (cells_in text enc rs)) ++ cond (is_first (addresses_of rs) i) (cell_in text enc r ∷ []) []
 first_cells-more text enc rs i r is =
     let cells = cells_in text enc rs in
     let cell = cell_in text enc r in
@@ -67,7 +72,7 @@ first_cells-more text enc rs i r is =
     ap (first_cells []) (take_more cells i cell inside ∙ ap (λ x. take i cells ++ x ∷ []) at)
     ∙ first_cells-push [] (take i cells) cell
     ∙ ap (λ b. first_cells [] (take i cells) ++ cond b [] (cell ∷ [])) (seen-first text enc rs i r is)
-    ∙ ap (λ l. first_cells [] (take i cells) ++ l) (cond-not (is_first rs i) cell)
+    ∙ ap (λ l. first_cells [] (take i cells) ++ l) (cond-not (is_first (addresses_of rs) i) cell)
 
 -- ---- what is kept of the first records
 
@@ -103,14 +108,14 @@ kept-upto text seam enc rs ss (suc n) inside are =
     let cells = first_cells [] (take n (cells_in text enc rs)) in
     let more = ap (λ m. first_cells [] (take m (cells_in text enc rs))) next ∙ first_cells-more text enc rs n there.0 there.1 in
     subst (λ l. IsKept text seam enc l (kept_upto rs ss (suc n)).0 (kept_upto rs ss (suc n)).1) (sym more)
-    (kept-unless text seam enc rs (kept_upto rs ss n).0 ss (kept_upto rs ss n).1 n cells there.0 (is_first rs n) there.1 are (kept-upto text seam enc rs ss n (omega arith) are))
+    (kept-unless text seam enc rs (kept_upto rs ss n).0 ss (kept_upto rs ss n).1 n cells there.0 (is_first (addresses_of rs) n) there.1 are (kept-upto text seam enc rs ss n (omega arith) are))
 
 -- ---- where each record is the first with its address
 
-pub all-first : (text : List ℕ) (enc : Enc) (rs : List CellRecord) (i : ℕ) → ((n : ℕ) → n < length rs → is_first rs n ≡ true) → i ≤ length rs
+pub all-first : (text : List ℕ) (enc : Enc) (rs : List CellRecord) (i : ℕ) → AreAllFirst (addresses_of rs) → i ≤ length rs
     → first_cells [] (take i (cells_in text enc rs)) ≡ take i (cells_in text enc rs)
-all-first text enc rs zero each inside = refl
-all-first text enc rs (suc i) each inside =
+all-first text enc rs zero all inside = refl
+all-first text enc rs (suc i) all inside =
     let cells = cells_in text enc rs in
     let there = has-at rs i (omega arith) in
     let cell = cell_in text enc there.0 in
@@ -119,8 +124,8 @@ all-first text enc rs (suc i) each inside =
     let more = take_more cells i cell (omega (arith, inside, length-map rs (cell_in text enc))) ∙ ap (λ x. take i cells ++ x ∷ []) at in
     ap (λ n. first_cells [] (take n cells)) next
     ∙ first_cells-more text enc rs i there.0 there.1
-    ∙ ap (λ b. first_cells [] (take i cells) ++ cond b (cell ∷ []) []) (each i (omega arith))
-    ∙ ap (λ l. l ++ cell ∷ []) (all-first text enc rs i each (omega arith))
+    ∙ ap (λ b. first_cells [] (take i cells) ++ cond b (cell ∷ []) []) (all.each i (omega (arith, inside, length-map rs (λ (r : CellRecord). r.address))))
+    ∙ ap (λ l. l ++ cell ∷ []) (all-first text enc rs i all (omega arith))
     ∙ sym more ∙ ap (λ n. take n cells) (sym next)
 
 -- ---- the first of all cells

@@ -19,7 +19,7 @@ use Rattle.heap_cells.specs.declared.cells.Kid.TheVariants as kid
 use Rattle.heap_cells.specs.Cells.{Cell, elements_in, kind_of, cell_weight, weight_of}
 use Rattle.heap_cells.specs.HeapMap.{number_at, form_at, elements_at}
 use Rattle.heap_cells.specs.Targets.{target, slot_target, kid_target, KeepsElement}
-use Rattle.cell_records.specs.Order.{record_with}
+use Rattle.cell_records.specs.Order.{addresses_of, number_with}
 use Rattle.cell_records.specs.Slots.{start_at, slots_at}
 use Rattle.heap_cells.specs.Inner.Records.{cell_in, cells_in, elements_by, IsRecord, AreLaid, AreSlots, element_at, spelled_by, IsReadable, Spells}
 use Rattle.dump_io.specs.Laws.Lists.{position-map}
@@ -237,8 +237,10 @@ keeps-element text seam (slot.Gone gone) e (kid.Gone address) spells is keeps = 
 -- ---- the record with an address
 
 pub number-at : (text : List ℕ) (enc : Enc) (rs : List CellRecord) (cells : List Cell) (address : ℕ) → cells_in text enc rs ≡ cells
-    → record_with rs address ≡ number_at cells address
-number-at text enc rs cells address are = sym (position-map (λ cell. cell.address == address) (cell_in text enc) rs) ∙ ap (λ l. number_at l address) are
+    → number_with (addresses_of rs) address ≡ number_at cells address
+number-at text enc rs cells address are =
+    position-map (λ a. a == address) (λ (r : CellRecord). r.address) rs
+    ∙ sym (position-map (λ cell. cell.address == address) (cell_in text enc) rs) ∙ ap (λ l. number_at l address) are
 
 -- a cell without a kind is malformed, and one with a kind isn't
 pub no-kind : (form : Option HeapForm) → None ≡ option_map kind_of form → form ≡ None

@@ -1,19 +1,18 @@
 -- Of the lines with one address the first is kept.
-use Rattle.std.proofs.Common.{◌≡◌, ℕ, zero, suc, ◌+◌, ◌<◌, ◌≤◌, ◌==◌, ◌||◌, Bool, true, false, not, cond, List, [], ◌∷◌, ◌++◌, length, take, drop, map, filter, get_or, Option, refl, sym, ◌∙◌, ap, subst, arith, append_assoc, length-append}
+use Rattle.std.proofs.Common.{◌≡◌, ℕ, zero, suc, ◌+◌, ◌<◌, ◌≤◌, ◌==◌, ◌||◌, Bool, true, false, not, cond, List, [], ◌∷◌, ◌++◌, length, take, drop, map, filter, get_or, refl, sym, ◌∙◌, ap, subst, arith, append_assoc, length-append}
 use Rattle.std.specs.List.{flat_map, list_any}
-use Rattle.std.specs.Option.{option_map_or}
 use Rattle.std.proofs.Math.Bool.{not-not}
 use Rattle.std.proofs.Math.Seq.{take-append_seam, drop-append_seam, take-length}
-use Rattle.std.proofs.lemmas.List.{take_more, length-take, append-nil}
-use Rattle.std.proofs.lemmas.Option.{slice_get-get_or}
+use Rattle.std.proofs.lemmas.List.{get_or-map, length-map, take-map, take_more, length-take, append-nil}
 use Rattle.heap_skeleton.specs.declared.held.CellPart.{CellPart}
 use Rattle.heap_skeleton.specs.declared.held.Held.{Held}
-use Rattle.heap_skeleton.specs.Inner.Held.{HeapLine, first_lines, line_at, no_line, marks_of, references_of, parts_of, Gains, IsHeld}
+use Rattle.heap_skeleton.specs.Inner.Held.{HeapLine, addresses_of, first_lines, line_at, no_line, marks_of, references_of, parts_of, Gains, IsHeld}
 use Rattle.heap_skeleton.specs.declared.settling.Settled.{Settled}
 use Rattle.heap_skeleton.specs.Inner.Keeping.{AreKept, HoldsLines}
-use Rattle.heap_skeleton.specs.Inner.Order.{address_in, is_first, AreAllFirst, AreFirsts}
+use Rattle.cell_records.specs.Firsts.{AreFirsts}
+use Rattle.cell_records.specs.Order.{address_in, is_first, AreAllFirst}
 use Rattle.heap_skeleton.proofs.GainFacts.{IsHeld-then}
-use Rattle.heap_skeleton.proofs.LaidFacts.{count-references, lines-count, part-fields, split-at}
+use Rattle.heap_skeleton.proofs.LaidFacts.{count-references, lines-count, split-at}
 use Rattle.heap_skeleton.specs.Inner.Leads.{leads_in, nowhere}
 
 -- ---- the first of the lines
@@ -39,26 +38,23 @@ first_lines-push seen (other ∷ lines) line =
     ap (λ l. cond (is_seen seen other) l (other ∷ l)) same
     ∙ cond-append (is_seen seen other) (first_lines (seen ++ other.cell.address ∷ []) lines) tail other
 
--- the parts before one have an address where the lines before it do
-seen-parts : (first : ℕ) (lines : List HeapLine) (i a : ℕ) → list_any (λ (p : CellPart). p.address == a) (take i (parts_of first lines)) ≡ list_any (λ b. b == a) (map line_address (take i lines))
-seen-parts first lines zero a = refl
-seen-parts first [] (suc i) a = refl
-seen-parts first (line ∷ lines) (suc i) a = ap (λ b. (line.cell.address == a) || b) (seen-parts (first + length (marks_of line)) lines i a)
+pub parts-addresses : (first : ℕ) (lines : List HeapLine) → addresses_of (parts_of first lines) ≡ map line_address lines
+parts-addresses first [] = refl
+parts-addresses first (line ∷ lines) = ap (λ l. line.cell.address ∷ l) (parts-addresses (first + length (marks_of line)) lines)
 
-pub part-address : (lines : List HeapLine) (i : ℕ) → i < length lines → address_in (parts_of 0 lines) i ≡ (line_at lines i).cell.address
-part-address lines i inside =
-    let d : CellPart = record { address = 0; line = 0; first = 0; words = 0 } in
-    ap (λ (o : Option CellPart). option_map_or (λ p. p.address) o 0) (slice_get-get_or (parts_of 0 lines) i d (omega (arith, inside, lines-parts 0 lines)))
-    ∙ (part-fields 0 lines i d inside).0
-  where
-    lines-parts : (n : ℕ) (ls : List HeapLine) → length (parts_of n ls) ≡ length ls
-    lines-parts n ls = Rattle.heap_skeleton.proofs.GainFacts.length-parts n ls
+-- the addresses of what is held
+pub held-addresses : (lines : List HeapLine) (held : Held) → IsHeld lines held → addresses_of held.parts.items ≡ map line_address lines
+held-addresses lines held is = ap addresses_of is.parts ∙ parts-addresses 0 lines
 
-seen-first : (lines : List HeapLine) (i : ℕ) → i < length lines → is_seen (map line_address (take i lines)) (line_at lines i) ≡ not (is_first (parts_of 0 lines) i)
+held-count : (held : Held) → length (addresses_of held.parts.items) ≡ length held.parts.items
+held-count held = length-map held.parts.items (λ (p : CellPart). p.address)
+
+seen-first : (lines : List HeapLine) (i : ℕ) → i < length lines → is_seen (map line_address (take i lines)) (line_at lines i) ≡ not (is_first (map line_address lines) i)
 seen-first lines i inside =
-    sym (seen-parts 0 lines i (line_at lines i).cell.address)
-    ∙ ap (λ a. list_any (λ (p : CellPart). p.address == a) (take i (parts_of 0 lines))) (sym (part-address lines i inside))
-    ∙ sym (not-not (list_any (λ (p : CellPart). p.address == address_in (parts_of 0 lines) i) (take i (parts_of 0 lines))))
+    let xs = map line_address lines in
+    ap (list_any (λ a. a == line_address (line_at lines i))) (sym (take-map line_address i lines))
+    ∙ ap (λ b. list_any (λ a. a == b) (take i xs)) (sym (get_or-map line_address lines i no_line 0 inside))
+    ∙ sym (not-not (list_any (λ a. a == address_in xs i) (take i xs)))
 
 cond-not : (b : Bool) (line : HeapLine) → cond (not b) [] (line ∷ []) ≡ cond b (line ∷ []) []
 cond-not true line = refl
@@ -66,14 +62,14 @@ cond-not false line = refl
 
 -- one more line, which is kept where it is the first with its address
 pub first_lines-more : (lines : List HeapLine) (i : ℕ) → i < length lines
-    → first_lines [] (take (i + 1) lines) ≡ first_lines [] (take i lines) ++ cond (is_first (parts_of 0 lines) i) (line_at lines i ∷ []) []
+    → first_lines [] (take (i + 1) lines) ≡ first_lines [] (take i lines) ++ cond (is_first (map line_address lines) i) (line_at lines i ∷ []) []
 first_lines-more lines i inside =
     let line = line_at lines i in
     ap (first_lines []) (take_more lines i no_line inside) ∙ first_lines-push [] (take i lines) line
     ∙ ap (λ b. first_lines [] (take i lines) ++ cond b [] (line ∷ [])) (seen-first lines i inside)
-    ∙ ap (λ l. first_lines [] (take i lines) ++ l) (cond-not (is_first (parts_of 0 lines) i) line)
+    ∙ ap (λ l. first_lines [] (take i lines) ++ l) (cond-not (is_first (map line_address lines) i) line)
 
-all-first : (lines : List HeapLine) (i : ℕ) → ((n : ℕ) → n < length lines → is_first (parts_of 0 lines) n ≡ true) → i ≤ length lines → first_lines [] (take i lines) ≡ take i lines
+all-first : (lines : List HeapLine) (i : ℕ) → ((n : ℕ) → n < length lines → is_first (map line_address lines) n ≡ true) → i ≤ length lines → first_lines [] (take i lines) ≡ take i lines
 all-first lines zero each inside = refl
 all-first lines (suc i) each inside =
     let next : suc i ≡ i + 1 = omega arith in
@@ -84,7 +80,7 @@ all-first lines (suc i) each inside =
     ∙ sym (take_more lines i no_line (omega (arith, inside))) ∙ ap (λ n. take n lines) (sym next)
 
 -- where each is the first with its address all are kept as they are
-pub all-kept : (held : Held) (own : ℕ) → own ≤ length held.parts.items → AreAllFirst held.parts.items → AreKept held own (record { held = held; own = own })
+pub all-kept : (held : Held) (own : ℕ) → own ≤ length held.parts.items → AreAllFirst (addresses_of held.parts.items) → AreKept held own (record { held = held; own = own })
 all-kept held own few all = record {
   held_is = λ lines is. subst (λ l. IsHeld l held) (sym (whole lines is)) is;
   own_is = λ lines is. sym (
@@ -92,8 +88,8 @@ all-kept held own few all = record {
       ∙ (let n = length-take own lines in omega (arith, n, few, lines-count lines held is)));
 }
   where
-    each : (lines : List HeapLine) → IsHeld lines held → (n : ℕ) → n < length lines → is_first (parts_of 0 lines) n ≡ true
-    each lines is n inside = ap (λ l. is_first l n) (sym is.parts) ∙ all.each n (omega (arith, inside, lines-count lines held is))
+    each : (lines : List HeapLine) → IsHeld lines held → (n : ℕ) → n < length lines → is_first (map line_address lines) n ≡ true
+    each lines is n inside = ap (λ l. is_first l n) (sym (held-addresses lines held is)) ∙ all.each n (omega (arith, inside, lines-count lines held is, held-count held))
 
     whole : (lines : List HeapLine) → IsHeld lines held → first_lines [] lines ≡ lines
     whole lines is = ap (first_lines []) (sym (take-length lines)) ∙ all-first lines (length lines) (each lines is) (omega arith) ∙ take-length lines
@@ -131,11 +127,11 @@ each-new seen (line ∷ lines) n inside =
     let seen' = seen ++ line.cell.address ∷ [] in
     new-unless seen line (first_lines seen' lines) (is_seen seen line) refl (each-new seen' lines) n inside
 
-pub kept-distinct : (held : Held) (kept : Settled) (own : ℕ) → HoldsLines held → AreKept held own kept → AreAllFirst kept.held.parts.items
+pub kept-distinct : (held : Held) (kept : Settled) (own : ℕ) → HoldsLines held → AreKept held own kept → AreAllFirst (addresses_of kept.held.parts.items)
 kept-distinct held kept own holds are = record {
   each = λ n inside.
-      let within : n < length lines = omega (arith, inside, lines-count lines kept.held is) in
-      ap (λ l. is_first l n) is.parts ∙ sym (not-not (is_first (parts_of 0 lines) n)) ∙ ap not (sym (seen-first lines n within) ∙ each-new [] holds.lines n within);
+      let within : n < length lines = omega (arith, inside, lines-count lines kept.held is, held-count kept.held) in
+      ap (λ l. is_first l n) (held-addresses lines kept.held is) ∙ sym (not-not (is_first (map line_address lines) n)) ∙ ap not (sym (seen-first lines n within) ∙ each-new [] holds.lines n within);
 }
   where
     lines : List HeapLine
@@ -167,17 +163,17 @@ own-kept held kept own holds are =
 
 -- ---- one more line
 
-kept-unless : (lines : List HeapLine) (held old new : Held) (i : ℕ) (b : Bool) → i < length lines → is_first (parts_of 0 lines) i ≡ b → Gains old new (cond b (line_at lines i ∷ []) [])
+kept-unless : (lines : List HeapLine) (held old new : Held) (i : ℕ) (b : Bool) → i < length lines → is_first (map line_address lines) i ≡ b → Gains old new (cond b (line_at lines i ∷ []) [])
     → IsHeld (first_lines [] (take i lines)) old → IsHeld (first_lines [] (take (i + 1) lines)) new
 kept-unless lines held old new i b inside first gains so_far =
     subst (λ l. IsHeld l new) (sym (first_lines-more lines i inside ∙ ap (λ c. first_lines [] (take i lines) ++ cond c (line_at lines i ∷ []) []) first))
     (IsHeld-then old new (first_lines [] (take i lines)) (cond b (line_at lines i ∷ []) []) so_far gains)
 
-pub kept-next : (held old new : Held) (firsts : List Bool) (i : ℕ) (b : Bool) → AreFirsts held.parts.items firsts → i < length held.parts.items → get_or firsts i false ≡ b
+pub kept-next : (held old new : Held) (firsts : List Bool) (i : ℕ) (b : Bool) → AreFirsts (addresses_of held.parts.items) firsts → i < length held.parts.items → get_or firsts i false ≡ b
     → (lines : List HeapLine) → IsHeld lines held → Gains old new (cond b (line_at lines i ∷ []) [])
     → IsHeld (first_lines [] (take i lines)) old → IsHeld (first_lines [] (take (i + 1) lines)) new
 kept-next held old new firsts i b are place read lines is gains so_far =
-    kept-unless lines held old new i b (omega (arith, place, lines-count lines held is)) (ap (λ l. is_first l i) (sym is.parts) ∙ sym (are.each i place) ∙ read) gains so_far
+    kept-unless lines held old new i b (omega (arith, place, lines-count lines held is)) (ap (λ l. is_first l i) (sym (held-addresses lines held is)) ∙ sym (are.each i (omega (arith, place, held-count held))) ∙ read) gains so_far
 
 -- ---- the addresses that are left
 

@@ -1,10 +1,8 @@
-pub mod FirstFacts
 pub mod GainFacts
 pub mod HearFacts
 pub mod KeepFacts
 pub mod LaidFacts
 pub mod LoadFacts
-pub mod OrderFacts
 pub mod ReadFacts
 pub mod ResolveFacts
 pub mod ShownFacts

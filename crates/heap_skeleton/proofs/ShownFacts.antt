@@ -20,12 +20,14 @@ use Rattle.heap_skeleton.specs.declared.leads.Lead.{Lead}
 use Rattle.heap_skeleton.specs.declared.leads.Lead.TheVariants as lead
 use Rattle.cell_graphs.specs.Graphs.{LeadsWithin, bin_at, bin_in, cell_in, places_of}
 use Rattle.cell_graphs.specs.Laws.HeapGraphs.{heap-within}
-use Rattle.heap_skeleton.specs.Inner.Held.{HeapLine, line_at, line_kind, marks_of, references_of, parts_of, start_at, IsHeld, IsSmall}
+use Rattle.heap_skeleton.specs.Inner.Held.{HeapLine, addresses_of, line_at, line_kind, marks_of, references_of, parts_of, start_at, IsHeld, IsSmall}
 use Rattle.heap_skeleton.specs.Inner.Leads.{cell_for, lead_of, leads_in, mark, marks, nowhere, reference, references}
-use Rattle.heap_skeleton.specs.Inner.Order.{bin_with, is_bin, led_to, part_with, resolved, IsOrder}
+use Rattle.cell_records.specs.Order.{number_with, IsOrder}
 use Rattle.heap_skeleton.specs.Inner.Shown.{leads_from, shown_skeleton, skeleton_with, start_of, AreLaid, IsSound, IsSpanOf}
+use Rattle.heap_skeleton.specs.Inner.Targets.{bin_with, is_bin, led_to, resolved}
 use Rattle.heap_skeleton.specs.Skeletons.{SkeletonMap}
 use Rattle.cell_words.specs.Words.{words_in}
+use Rattle.heap_skeleton.proofs.KeepFacts.{held-addresses, line_address, parts-addresses}
 use Rattle.heap_skeleton.proofs.LaidFacts.{kind-at, kinds-count, lines-count}
 
 -- ---- where the elements of a part begin and end
@@ -54,6 +56,10 @@ leads-count : (parts : List CellPart) (leads : List ℕ) → length (leads_from 
 leads-count [] leads = refl
 leads-count (part ∷ parts) leads = omega (arith, leads-count parts leads)
 
+-- as many as have addresses
+pub leads-addresses : (parts : List CellPart) (leads : List ℕ) → length (leads_from parts leads) ≡ length (addresses_of parts)
+leads-addresses parts leads = leads-count parts leads ∙ sym (length-map parts (λ (p : CellPart). p.address))
+
 pub cells-shown : (own : ℕ) (parts : List CellPart) (kinds : List (Option Kind)) (leads : List ℕ) (v : SkeletonMap) → shown_skeleton own parts kinds leads ≡ v → length v.leads ≡ length parts
 cells-shown own parts kinds leads v is = ap (λ (s : SkeletonMap). length s.leads) (sym is) ∙ leads-count parts leads
 
@@ -75,16 +81,7 @@ words-part [] i part inside is = absurd (omega (arith, inside))
 words-part (p ∷ parts) zero part inside is = ap (λ (q : CellPart). q.words) is
 words-part (p ∷ parts) (suc i) part inside is = words-part parts i part (omega (arith, inside)) is
 
--- ---- an address
-
-pub find-is : (parts : List CellPart) (address : ℕ) → part_with parts address ≡ position (λ a. a == address) (map (λ (p : CellPart). p.address) parts)
-find-is parts address = sym (position-map (λ a. a == address) (λ (p : CellPart). p.address) parts)
-
 -- ---- what is held of lines
-
-pub parts-addresses : (first : ℕ) (lines : List HeapLine) → map (λ (p : CellPart). p.address) (parts_of first lines) ≡ map (λ (l : HeapLine). l.cell.address) lines
-parts-addresses first [] = refl
-parts-addresses first (line ∷ lines) = ap (λ l. line.cell.address ∷ l) (parts-addresses (first + length (marks_of line)) lines)
 
 parts-lines : (first : ℕ) (lines : List HeapLine) → map (λ (p : CellPart). p.line) (parts_of first lines) ≡ map (λ (l : HeapLine). l.at) lines
 parts-lines first [] = refl
@@ -154,10 +151,14 @@ map-two g f (x ∷ xs) = ap (λ l. g (f x) ∷ l) (map-two g f xs)
 abbrev pub cells_in : List HeapLine → List Cell
 cells_in lines = map (λ (l : HeapLine). l.cell) lines
 
--- the number of the first of the parts with an address is that of the cell
-part-number : (lines : List HeapLine) (address : ℕ) → part_with (parts_of 0 lines) address ≡ number_at (cells_in lines) address
-part-number lines address =
-    find-is (parts_of 0 lines) address ∙ ap (position (λ a. a == address)) (parts-addresses 0 lines ∙ sym (map-two (λ (c : Cell). c.address) (λ (l : HeapLine). l.cell) lines))
+-- the addresses of lines
+abbrev addresses_in : List HeapLine → List ℕ
+addresses_in lines = map line_address lines
+
+-- the first of their numbers with an address is that of the cell
+line-number : (lines : List HeapLine) (address : ℕ) → number_with (addresses_in lines) address ≡ number_at (cells_in lines) address
+line-number lines address =
+    ap (position (λ a. a == address)) (sym (map-two (λ (c : Cell). c.address) (λ (l : HeapLine). l.cell) lines))
     ∙ position-map (λ a. a == address) (λ (c : Cell). c.address) (map (λ (l : HeapLine). l.cell) lines)
 
 cell-at : (lines : List HeapLine) (n : ℕ) → n < length lines → slice_get (cells_in lines) n ≡ Some (line_at lines n).cell
@@ -187,22 +188,22 @@ number-within : (lines : List HeapLine) (address n : ℕ) → number_at (cells_i
 number-within lines address n is =
     let within = (position-Some (λ (c : Cell). c.address == address) (cells_in lines) n no_cell is).0 in omega (arith, within, length-map lines (λ (l : HeapLine). l.cell))
 
-led-bin : (lines : List HeapLine) (kinds : List (Option Kind)) (address : ℕ) → kinds ≡ map line_kind lines → led_to (parts_of 0 lines) kinds (lead.Binary address) ≡ bin_at (cells_in lines) address
-led-bin lines kinds address is = ap (option_and_then (bin_with kinds)) (part-number lines address) ∙ of (number_at (cells_in lines) address) refl
+led-bin : (lines : List HeapLine) (kinds : List (Option Kind)) (address : ℕ) → kinds ≡ map line_kind lines → led_to (addresses_in lines) kinds (lead.Binary address) ≡ bin_at (cells_in lines) address
+led-bin lines kinds address is = ap (option_and_then (bin_with kinds)) (line-number lines address) ∙ of (number_at (cells_in lines) address) refl
   where
     of : (o : Option ℕ) → number_at (cells_in lines) address ≡ o → option_and_then (bin_with kinds) o ≡ option_and_then (λ n. bin_in n (form_at (cells_in lines) n)) o
     of None found = refl
     of (Some n) found = bin-number lines kinds n is (number-within lines address n found)
 
-led-element : (lines : List HeapLine) (kinds : List (Option Kind)) (e : Element) → led_to (parts_of 0 lines) kinds (lead_of e) ≡ cell_in (target (cells_in lines) e)
-led-element lines kinds (Ref address) = part-number lines address ∙ sym (cell-of address (number_at (cells_in lines) address))
+led-element : (lines : List HeapLine) (kinds : List (Option Kind)) (e : Element) → led_to (addresses_in lines) kinds (lead_of e) ≡ cell_in (target (cells_in lines) e)
+led-element lines kinds (Ref address) = line-number lines address ∙ sym (cell-of address (number_at (cells_in lines) address))
 led-element lines kinds e = refl
 
-led-elements : (lines : List HeapLine) (kinds : List (Option Kind)) (es : List Element) → map (led_to (parts_of 0 lines) kinds) (map lead_of es) ≡ map (λ e. cell_in (target (cells_in lines) e)) es
+led-elements : (lines : List HeapLine) (kinds : List (Option Kind)) (es : List Element) → map (led_to (addresses_in lines) kinds) (map lead_of es) ≡ map (λ e. cell_in (target (cells_in lines) e)) es
 led-elements lines kinds [] = refl
 led-elements lines kinds (e ∷ es) = ap₂ (λ x l. x ∷ l) (led-element lines kinds e) (led-elements lines kinds es)
 
-led-form : (lines : List HeapLine) (kinds : List (Option Kind)) (f : Option form.HeapForm) → kinds ≡ map line_kind lines → map (led_to (parts_of 0 lines) kinds) (leads_in f) ≡ places_of (cells_in lines) f
+led-form : (lines : List HeapLine) (kinds : List (Option Kind)) (f : Option form.HeapForm) → kinds ≡ map line_kind lines → map (led_to (addresses_in lines) kinds) (leads_in f) ≡ places_of (cells_in lines) f
 led-form lines kinds None is = refl
 led-form lines kinds (Some (form.SubBin address offset size)) is = ap (λ o. o ∷ []) (led-bin lines kinds address is)
 led-form lines kinds (Some f) is = led-elements lines kinds (elements_in (Some f))
@@ -221,18 +222,18 @@ bin-some kinds (Some m) n is = of (is_bin (get_or kinds m None)) is
     of true same = same
     of false same = cc
 
-led-within : (lines : List HeapLine) (kinds : List (Option Kind)) (l : Lead) (n : ℕ) → led_to (parts_of 0 lines) kinds l ≡ Some n → n < length lines
+led-within : (lines : List HeapLine) (kinds : List (Option Kind)) (l : Lead) (n : ℕ) → led_to (addresses_in lines) kinds l ≡ Some n → n < length lines
 led-within lines kinds lead.Nowhere n is = cc
-led-within lines kinds (lead.Cell address) n is = number-within lines address n (sym (part-number lines address) ∙ is)
-led-within lines kinds (lead.Binary address) n is = number-within lines address n (sym (part-number lines address) ∙ bin-some kinds (part_with (parts_of 0 lines) address) n is)
+led-within lines kinds (lead.Cell address) n is = number-within lines address n (sym (line-number lines address) ∙ is)
+led-within lines kinds (lead.Binary address) n is = number-within lines address n (sym (line-number lines address) ∙ bin-some kinds (number_with (addresses_in lines) address) n is)
 
-cells-led : (lines : List HeapLine) (kinds : List (Option Kind)) (ls : List Lead) → length lines ≤ 2 ^ 32 - 2 → map cell_for (map (resolved (parts_of 0 lines) kinds) ls) ≡ map (led_to (parts_of 0 lines) kinds) ls
+cells-led : (lines : List HeapLine) (kinds : List (Option Kind)) (ls : List Lead) → length lines ≤ 2 ^ 32 - 2 → map cell_for (map (resolved (addresses_in lines) kinds) ls) ≡ map (led_to (addresses_in lines) kinds) ls
 cells-led lines kinds [] few = refl
 cells-led lines kinds (l ∷ ls) few =
-    ap₂ (λ x xs. x ∷ xs) (number-kept (led_to (parts_of 0 lines) kinds l) (λ n is. let within = led-within lines kinds l n is in omega (arith, within, few))) (cells-led lines kinds ls few)
+    ap₂ (λ x xs. x ∷ xs) (number-kept (led_to (addresses_in lines) kinds l) (λ n is. let within = led-within lines kinds l n is in omega (arith, within, few))) (cells-led lines kinds ls few)
 
 graph-parts : (all : List HeapLine) (kinds : List (Option Kind)) (lines : List HeapLine) → kinds ≡ map line_kind all → length all ≤ 2 ^ 32 - 2
-    → map (λ (l : HeapLine). map cell_for (map (resolved (parts_of 0 all) kinds) (line_leads l))) lines ≡ map (λ (c : Cell). places_of (cells_in all) c.form) (cells_in lines)
+    → map (λ (l : HeapLine). map cell_for (map (resolved (addresses_in all) kinds) (line_leads l))) lines ≡ map (λ (c : Cell). places_of (cells_in all) c.form) (cells_in lines)
 graph-parts all kinds [] is few = refl
 graph-parts all kinds (line ∷ lines) is few =
     ap₂ (λ x xs. x ∷ xs) (cells-led all kinds (line_leads line) few ∙ led-form all kinds line.cell.form is) (graph-parts all kinds lines is few)
@@ -247,26 +248,26 @@ pub shown-equal : (own : ℕ) (a a' b b' : List ℕ) (k k' : List (Option Kind))
 shown-equal own a a' b b' k k' w w' g g' one two three four five = cc (one, two, three, four, five)
 
 pub shown-lines : (own : ℕ) (lines : List HeapLine) (held : Held) (numbers : List ℕ) → IsHeld lines held → IsSmall held
-    → ((leads : List Lead) → held.leads.marks.items ≡ marks leads → held.leads.references.items ≡ references leads → numbers ≡ map (resolved held.parts.items held.kinds.items) leads)
+    → ((leads : List Lead) → held.leads.marks.items ≡ marks leads → held.leads.references.items ≡ references leads → numbers ≡ map (resolved (addresses_of held.parts.items) held.kinds.items) leads)
     → shown_skeleton own held.parts.items held.kinds.items numbers ≡ skeleton_with own lines
 shown-lines own lines held numbers is small found =
-    let parts = parts_of 0 lines in
+    let xs = addresses_in lines in
     let kinds = held.kinds.items in
     let few : length lines ≤ 2 ^ 32 - 2 = omega (arith, small, lines-count lines held is) in
-    let numbers_are : numbers ≡ flat_map (λ (l : HeapLine). map (resolved parts kinds) (line_leads l)) lines =
+    let numbers_are : numbers ≡ flat_map (λ (l : HeapLine). map (resolved xs kinds) (line_leads l)) lines =
     found (flat_map line_leads lines) (is.marks ∙ marks-flat lines) (is.references ∙ references-flat lines)
-    ∙ ap (λ p. map (resolved p kinds) (flat_map line_leads lines)) is.parts ∙ numbers-flat (resolved parts kinds) lines in
+    ∙ ap (λ p. map (resolved p kinds) (flat_map line_leads lines)) (held-addresses lines held is) ∙ numbers-flat (resolved xs kinds) lines in
     ap (λ p. shown_skeleton own p kinds numbers) is.parts
     ∙ shown-equal own _ _ _ _ _ _ _ _ _ _ (parts-addresses 0 lines) (parts-lines 0 lines) is.kinds (parts-words 0 lines)
-    (ap (leads_from parts) numbers_are ∙ leads-parts (resolved parts kinds) 0 lines [] refl ∙ graph-parts lines kinds lines is.kinds few)
+    (ap (leads_from (parts_of 0 lines)) numbers_are ∙ leads-parts (resolved xs kinds) 0 lines [] refl ∙ graph-parts lines kinds lines is.kinds few)
 
-pub sound-lines : (own : ℕ) (lines : List HeapLine) (held : Held) (numbers order : List ℕ) → IsHeld lines held → IsSmall held → own ≤ length held.parts.items → IsOrder held.parts.items order
-    → ((leads : List Lead) → held.leads.marks.items ≡ marks leads → held.leads.references.items ≡ references leads → numbers ≡ map (resolved held.parts.items held.kinds.items) leads)
+pub sound-lines : (own : ℕ) (lines : List HeapLine) (held : Held) (numbers order : List ℕ) → IsHeld lines held → IsSmall held → own ≤ length held.parts.items → IsOrder (addresses_of held.parts.items) order
+    → ((leads : List Lead) → held.leads.marks.items ≡ marks leads → held.leads.references.items ≡ references leads → numbers ≡ map (resolved (addresses_of held.parts.items) held.kinds.items) leads)
     → IsSound own held.parts.items held.kinds.items numbers order
 sound-lines own lines held numbers order is small own_few ordered found =
     let size : length numbers ≡ 0 + length (flat_map marks_of lines) =
     ap length (found (flat_map line_leads lines) (is.marks ∙ marks-flat lines) (is.references ∙ references-flat lines))
-    ∙ length-map (flat_map line_leads lines) (resolved held.parts.items held.kinds.items)
+    ∙ length-map (flat_map line_leads lines) (resolved (addresses_of held.parts.items) held.kinds.items)
     ∙ sym (length-map (flat_map line_leads lines) mark) ∙ ap length (sym (marks-flat lines)) ∙ (let same : length (flat_map marks_of lines) ≡ 0 + length (flat_map marks_of lines) = omega arith in same) in
     record {
       few = omega (arith, small);

@@ -3,7 +3,7 @@ pub mod Hearing
 pub mod Held
 pub mod Keeping
 pub mod Leads
-pub mod Order
 pub mod Reading
 pub mod Resolving
 pub mod Shown
+pub mod Targets

@@ -4,7 +4,7 @@ ghost use Rattle.heap_skeleton.specs.Inner.Held.{start_at, IsHeld, IsSmall};
 
 use crate::forms::Read;
 use crate::leads::Leads;
-use cell_records::Kind;
+use cell_records::{Kind, Located};
 use std::alloc::{AllocError, Global};
 
 // The most cells and elements.
@@ -21,6 +21,14 @@ pub(crate) struct CellPart {
     pub first: u32,
     /// The number of its words.
     pub words: u32,
+}
+
+impl Located for CellPart {
+    ghost address = { λ p. p.address };
+
+    fn address(&self) -> u64 {
+        self.address
+    }
 }
 
 /// The cells of the heap lines so far, whose elements aren't resolved yet.

@@ -1,9 +1,9 @@
 // Keeping the first of the heap lines with each address.
 ghost use Rattle.std.specs.Prelude.{◌≡◌, ◌<◌, ◌≤◌, ◌==◌, not, length, filter, slice_range, OnOk, IfOk};
-ghost use Rattle.heap_skeleton.specs.Inner.Held.{IsSmall};
+ghost use Rattle.cell_records.specs.Firsts.{AreFirsts};
+ghost use Rattle.heap_skeleton.specs.Inner.Held.{addresses_of, IsSmall};
 ghost use Rattle.heap_skeleton.specs.Inner.Keeping.{HoldsLines, AreMarksAt, KeepsLine, KeepsNext, IsKeeping, AreLeft, AreKept};
 ghost use Rattle.heap_skeleton.specs.Inner.Leads.{nowhere};
-ghost use Rattle.heap_skeleton.specs.Inner.Order.{AreFirsts};
 
 use crate::forms::Read;
 use crate::held::{Held, start_at};
@@ -67,7 +67,7 @@ fn keep_next(
 ) -> Result<(), AllocError>
     requires place { i < length held.now.parts.items }
     requires holds { HoldsLines held.now }
-    requires firsts { AreFirsts held.now.parts.items firsts.now }
+    requires firsts { AreFirsts (addresses_of held.now.parts.items) firsts.now }
     requires small { IsSmall kept.old }
     ensures small { OnOk result (IsSmall kept.new) }
     ensures keeps { OnOk result (KeepsNext held.now i references.now kept.old kept.new) }
@@ -89,7 +89,7 @@ fn keep_part<'a>(
     kept: &mut Held,
 ) -> Result<&'a [u64], AllocError>
     requires holds { HoldsLines held.now }
-    requires firsts { AreFirsts held.now.parts.items firsts.now }
+    requires firsts { AreFirsts (addresses_of held.now.parts.items) firsts.now }
     requires part { from ≤ upto }
     requires within { upto ≤ length held.now.parts.items }
     requires small { IsSmall kept.old }
@@ -115,7 +115,7 @@ pub(crate) fn keep_firsts(
     own: usize,
 ) -> Result<Settled, AllocError>
     requires holds { HoldsLines held.now }
-    requires firsts { AreFirsts held.now.parts.items firsts.now }
+    requires firsts { AreFirsts (addresses_of held.now.parts.items) firsts.now }
     requires own { own ≤ length held.now.parts.items }
     ensures small { IfOk result (λ kept. IsSmall kept.held) }
     ensures kept { IfOk result (AreKept held.now own) }

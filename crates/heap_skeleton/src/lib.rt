@@ -17,7 +17,6 @@
 #![tactic(auto)]
 
 mod faults;
-mod firsts;
 mod forms;
 mod gathering;
 mod heap_sink;
@@ -25,7 +24,6 @@ mod held;
 mod keeping;
 mod leads;
 mod loading;
-mod order;
 mod resolving;
 mod settling;
 mod skeleton;

@@ -1,14 +1,15 @@
 // Resolving the addresses of elements to the cells to which they lead.
-ghost use Rattle.std.specs.Prelude.{◌≡◌, ◌<◌, ◌^◌, true, List, None, length, map, slice_index_or};
+ghost use Rattle.std.specs.Prelude.{◌≡◌, ◌<◌, List, None, length, map, slice_index_or};
+ghost use Rattle.cell_records.specs.Order.{AreAllFirst, AreRanked};
 ghost use Rattle.heap_skeleton.specs.declared.leads.Lead.{Lead};
+ghost use Rattle.heap_skeleton.specs.Inner.Held.{addresses_of};
 ghost use Rattle.heap_skeleton.specs.Inner.Leads.{marks, references};
-ghost use Rattle.heap_skeleton.specs.Inner.Order.{is_bin, part_with, resolved, AreAllFirst, IsOrder};
-ghost use Rattle.heap_skeleton.specs.Inner.Resolving.{HasAddress, ResolvesNext, StandsAt};
+ghost use Rattle.heap_skeleton.specs.Inner.Resolving.{HasAddress, ResolvesNext};
+ghost use Rattle.heap_skeleton.specs.Inner.Targets.{is_bin, resolved};
 
 use crate::held::CellPart;
 use crate::leads::{BINARY, NOWHERE};
-use crate::order::number_of;
-use cell_records::Kind;
+use cell_records::{Kind, Ranks, number_near};
 
 // Whether the cell with a number is a heap binary.
 fn is_bin(kinds: &[Option<Kind>], number: u32) -> bool
@@ -20,44 +21,20 @@ fn is_bin(kinds: &[Option<Kind>], number: u32) -> bool
     }
 }
 
-// Whether there is a cell with this number, and it has this address.
-fn stands_at(parts: &[CellPart], number: u32, address: u64) -> bool
-    ensures { result ≡ true → StandsAt parts.now number address }
-{
-    match parts.get(number as usize) {
-        Some(part) => part.address == address,
-        None => false,
-    }
-}
-
-// The number of the cell with an address. The cell with the number `near` is looked at first, since mostly it is that one.
-fn number_near(order: &[u32], parts: &[CellPart], near: u32, address: u64) -> Option<u32>
-    requires few { length parts.now < 2 ^ 32 }
-    requires order { IsOrder parts.now order.now }
-    requires distinct { AreAllFirst parts.now }
-    ensures { result ≡ part_with parts.now address }
-{
-    if stands_at(parts, near, address) {
-        return Some(near);
-    }
-    number_of(order, parts, address)
-}
-
 // The cell to which an element with this mark and this address leads. `near` becomes the number behind that of the cell found.
 fn resolve_one(
-    order: &[u32],
+    ranks: &Ranks,
     parts: &[CellPart],
     kinds: &[Option<Kind>],
     near: &mut u32,
     mark: u32,
     address: u64,
 ) -> u32
-    requires few { length parts.now < 2 ^ 32 }
-    requires order { IsOrder parts.now order.now }
-    requires distinct { AreAllFirst parts.now }
-    ensures { (l : Lead) → HasAddress l mark address → result ≡ resolved parts.now kinds.now l }
+    requires ranked { AreRanked (addresses_of parts.now) ranks.now }
+    requires distinct { AreAllFirst (addresses_of parts.now) }
+    ensures { (l : Lead) → HasAddress l mark address → result ≡ resolved (addresses_of parts.now) kinds.now l }
 {
-    let Some(number) = number_near(order, parts, *near, address) else {
+    let Some(number) = number_near(ranks, parts, *near, address) else {
         return NOWHERE;
     };
     *near = number + 1;
@@ -73,23 +50,22 @@ fn resolve_next<'a>(
     marks: &mut [u32],
     i: usize,
     references: &'a [u64],
-    order: &[u32],
+    ranks: &Ranks,
     parts: &[CellPart],
     kinds: &[Option<Kind>],
     near: &mut u32,
 ) -> Option<&'a [u64]>
     requires place { i < length marks.old }
-    requires few { length parts.now < 2 ^ 32 }
-    requires order { IsOrder parts.now order.now }
-    requires distinct { AreAllFirst parts.now }
-    ensures { ResolvesNext parts.now kinds.now i marks.old references.now marks.new result }
+    requires ranked { AreRanked (addresses_of parts.now) ranks.now }
+    requires distinct { AreAllFirst (addresses_of parts.now) }
+    ensures { ResolvesNext (addresses_of parts.now) kinds.now i marks.old references.now marks.new result }
 {
     let mark = marks[i];
     if mark == NOWHERE {
         return Some(references);
     }
     let (address, behind) = references.split_first()?;
-    marks[i] = resolve_one(order, parts, kinds, near, mark, *address);
+    marks[i] = resolve_one(ranks, parts, kinds, near, mark, *address);
     Some(behind)
 }
 
@@ -98,20 +74,19 @@ fn resolve_next<'a>(
 pub(crate) fn resolve(
     numbers: &mut [u32],
     addresses: &[u64],
-    order: &[u32],
+    ranks: &Ranks,
     parts: &[CellPart],
     kinds: &[Option<Kind>],
 )
-    requires few { length parts.now < 2 ^ 32 }
-    requires order { IsOrder parts.now order.now }
-    requires distinct { AreAllFirst parts.now }
+    requires ranked { AreRanked (addresses_of parts.now) ranks.now }
+    requires distinct { AreAllFirst (addresses_of parts.now) }
     ensures { (leads : List Lead) → numbers.old ≡ marks leads → addresses.now ≡ references leads
-        → numbers.new ≡ map (resolved parts.now kinds.now) leads }
+        → numbers.new ≡ map (resolved (addresses_of parts.now) kinds.now) leads }
 {
     let mut rest = addresses;
     let mut near = 0;
     for i in 0..numbers.len() {
-        let Some(behind) = resolve_next(numbers, i, rest, order, parts, kinds, &mut near) else {
+        let Some(behind) = resolve_next(numbers, i, rest, ranks, parts, kinds, &mut near) else {
             return;
         };
         rest = behind;

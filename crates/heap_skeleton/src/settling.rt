@@ -1,13 +1,12 @@
 // Cells with different addresses.
 ghost use Rattle.std.specs.Prelude.{◌≤◌, length, IfOk};
-ghost use Rattle.heap_skeleton.specs.Inner.Held.{IsSmall};
+ghost use Rattle.cell_records.specs.Order.{AreAllFirst, AreRanked};
+ghost use Rattle.heap_skeleton.specs.Inner.Held.{addresses_of, IsSmall};
 ghost use Rattle.heap_skeleton.specs.Inner.Keeping.{HoldsLines, AreKept};
-ghost use Rattle.heap_skeleton.specs.Inner.Order.{AreAllFirst, IsOrder};
 
-use crate::firsts::{are_apart, firsts_of};
 use crate::held::Held;
 use crate::keeping::keep_firsts;
-use crate::order::order_of;
+use cell_records::{Ranks, are_apart, firsts_of, ranks_of};
 use std::alloc::{AllocError, Global};
 
 /// Heap lines of which no two have the same address.
@@ -18,11 +17,24 @@ pub(crate) struct Settled {
     pub own: u32,
 }
 
-/// Such heap lines, with their numbers in the order of the addresses.
+/// Such heap lines, with their addresses in order.
 #[derive(Drop)]
 pub(crate) struct Ordered {
     pub settled: Settled,
-    pub order: Vec<u32>,
+    /// The addresses of the cells with their numbers, sorted.
+    pub ranks: Ranks,
+}
+
+// The cells that are the first with their address. The first `own` of all cells are the process's own.
+fn first_cells(alloc: Global, held: Held, own: u32, ranks: Ranks) -> Result<Settled, AllocError>
+    requires holds { HoldsLines held }
+    requires own { own ≤ length held.parts.items }
+    requires ranked { AreRanked (addresses_of held.parts.items) ranks }
+    ensures small { IfOk result (λ kept. IsSmall kept.held) }
+    ensures kept { IfOk result (AreKept held own) }
+{
+    let firsts = firsts_of(alloc, ranks, &held.parts)?;
+    keep_firsts(alloc, &held, &firsts, own as usize)
 }
 
 // Keeps of the cells with one address the first. The first `own` of all cells are the process's own.
@@ -33,18 +45,17 @@ pub(crate) fn settle(alloc: Global, held: Held, own: u32) -> Result<Ordered, All
     ensures small { IfOk result (λ found. IsSmall found.settled.held) }
     ensures own { IfOk result (λ found. found.settled.own ≤ length found.settled.held.parts.items) }
     ensures kept { IfOk result (λ found. AreKept held own found.settled) }
-    ensures distinct { IfOk result (λ found. AreAllFirst found.settled.held.parts.items) }
-    ensures order { IfOk result (λ found. IsOrder found.settled.held.parts.items found.order.items) }
+    ensures distinct { IfOk result (λ found. AreAllFirst (addresses_of found.settled.held.parts.items)) }
+    ensures ranked { IfOk result (λ found. AreRanked (addresses_of found.settled.held.parts.items) found.ranks) }
 {
-    let order = order_of(alloc, &held.parts)?;
-    if are_apart(&order, &held.parts) {
+    let ranks = ranks_of(alloc, &held.parts)?;
+    if are_apart(&ranks) {
         return Ok(Ordered {
             settled: Settled { held, own },
-            order,
+            ranks,
         });
     }
-    let firsts = firsts_of(alloc, &order, &held.parts)?;
-    let settled = keep_firsts(alloc, &held, &firsts, own as usize)?;
-    let order = order_of(alloc, &settled.held.parts)?;
-    Ok(Ordered { settled, order })
+    let settled = first_cells(alloc, held, own, ranks)?;
+    let ranks = ranks_of(alloc, &settled.held.parts)?;
+    Ok(Ordered { settled, ranks })
 }

@@ -1,16 +1,16 @@
 // What leads where in a heap.
 ghost use Rattle.std.specs.Prelude.{◌≡◌, ◌<◌, ◌≤◌, ◌^◌, List, length, Some, slice_get, position, ◌==◌, IfOk, IfErr, IfSome};
 ghost use Rattle.cell_graphs.specs.Graphs.{LeadsWithin};
+ghost use Rattle.cell_records.specs.Order.{AreAllFirst, AreRanked};
 ghost use Rattle.dump_io.specs.Dumps.{ReadsAtMost, IfTold};
 ghost use Rattle.dump_sections.specs.Index.{IsBuiltOver, sections_in};
 ghost use Rattle.dump_sections.specs.Loading.{bodies_length};
 ghost use Rattle.heap_cells.specs.Loading.{heap_bodies};
 ghost use Rattle.heap_skeleton.specs.Loading.{IsSkeletonCauseOf};
 ghost use Rattle.heap_skeleton.specs.Skeletons.{skeleton_for};
-ghost use Rattle.heap_skeleton.specs.Inner.Held.{HeapLine, IsHeld, IsSmall};
+ghost use Rattle.heap_skeleton.specs.Inner.Held.{HeapLine, addresses_of, IsHeld, IsSmall};
 ghost use Rattle.heap_skeleton.specs.Inner.Keeping.{HoldsLines};
 ghost use Rattle.heap_skeleton.specs.Inner.Leads.{cell_for};
-ghost use Rattle.heap_skeleton.specs.Inner.Order.{AreAllFirst, IsOrder};
 ghost use Rattle.heap_skeleton.specs.Inner.Resolving.{AreResolved};
 ghost use Rattle.heap_skeleton.specs.Inner.Shown.{skeleton_with, AreLaid, IsSpanOf};
 
@@ -18,12 +18,11 @@ use crate::faults::SkeletonFault;
 use crate::held::{CellPart, Held, start_at};
 use crate::leads::{Leads, NOWHERE};
 use crate::loading::read_lines;
-use crate::order::number_of;
 use crate::resolving::resolve;
 use crate::settling::{Ordered, Settled, settle};
 use cell_graphs::CellGraph;
 use cell_parts::Kinded;
-use cell_records::Kind;
+use cell_records::{Kind, Ranks, number_of};
 use cell_words::Weighed;
 use dump_io::Dumps;
 use dump_sections::Index;
@@ -80,53 +79,53 @@ fn span_of(parts: &[CellPart], leads: &[u32], cell: u32) -> (usize, usize)
 // The numbers of the cells to which elements lead.
 fn resolve_leads(
     leads: Leads,
-    order: &[u32],
+    ranks: &Ranks,
     parts: &[CellPart],
     kinds: &[Option<Kind>],
 ) -> Vec<u32>
-    requires few { length parts.now < 2 ^ 32 }
-    requires order { IsOrder parts.now order.now }
-    requires distinct { AreAllFirst parts.now }
-    ensures { AreResolved parts.now kinds.now leads result.items }
+    requires ranked { AreRanked (addresses_of parts.now) ranks.now }
+    requires distinct { AreAllFirst (addresses_of parts.now) }
+    ensures { AreResolved (addresses_of parts.now) kinds.now leads result.items }
 {
     let Leads {
         mut marks,
         references,
     } = leads;
-    resolve(&mut marks, &references, order, parts, kinds);
+    resolve(&mut marks, &references, ranks, parts, kinds);
     marks.shrink_to_fit();
     marks
 }
 
-// The skeleton of cells with different addresses. What the vectors
-// have grown to hold beyond the cells and elements is given back.
-fn skeleton_of(ordered: Ordered) -> Skeleton
+// The skeleton of cells with different addresses. What the vectors have grown to hold beyond the cells and elements
+// is given back. The numbers in order are made last, since by then the addresses of references take no memory.
+fn skeleton_of(alloc: Global, ordered: Ordered) -> Result<Skeleton, AllocError>
     requires holds { HoldsLines ordered.settled.held }
     requires small { IsSmall ordered.settled.held }
     requires own { ordered.settled.own ≤ length ordered.settled.held.parts.items }
-    requires order { IsOrder ordered.settled.held.parts.items ordered.order.items }
-    requires distinct { AreAllFirst ordered.settled.held.parts.items }
-    ensures { (lines : List HeapLine) → IsHeld lines ordered.settled.held
-        → result ≡ skeleton_with ordered.settled.own lines }
+    requires ranked { AreRanked (addresses_of ordered.settled.held.parts.items) ordered.ranks }
+    requires distinct { AreAllFirst (addresses_of ordered.settled.held.parts.items) }
+    ensures cells { IfOk result (λ s. length s.leads ≡ length s.addresses) }
+    ensures lines { IfOk result (λ s. (lines : List HeapLine) → IsHeld lines ordered.settled.held
+        → s ≡ skeleton_with ordered.settled.own lines) }
 {
-    let Ordered { settled, mut order } = ordered;
+    let Ordered { settled, ranks } = ordered;
     let Settled { held, own } = settled;
     let Held {
         mut parts,
         mut kinds,
         leads,
     } = held;
-    let numbers = resolve_leads(leads, &order, &parts, &kinds);
+    let numbers = resolve_leads(leads, &ranks, &parts, &kinds);
     parts.shrink_to_fit();
     kinds.shrink_to_fit();
-    order.shrink_to_fit();
-    Skeleton {
+    let order = ranks.numbers(alloc)?;
+    Ok(Skeleton {
         parts,
         kinds,
         leads: numbers,
         order,
         own,
-    }
+    })
 }
 
 impl Skeleton {
@@ -138,8 +137,8 @@ impl Skeleton {
     /// come from any allocation, and comes if there are more than 2^32 - 2 cells and elements, including those of
     /// repeated addresses, or a cell of 2^32 words or more. Whatever it returns, at most as many bytes are read
     /// as the two bodies have. Only meanwhile are needed: a buffer of at most twice the longest line and a piece, 8 bytes
-    /// for each element that is a reference, and 16 for each cell while the addresses are sorted; and if addresses
-    /// are repeated, as much again as is kept.
+    /// for each element that is a reference, and 8 for each cell while the addresses are sorted, or 16 if they lie too
+    /// far apart; and if addresses are repeated, as much again as is kept.
     pub fn load<D: Dumps>(
         alloc: Global,
         dumps: &mut D,
@@ -152,11 +151,12 @@ impl Skeleton {
         ensures fault { IfErr result (IsSkeletonCauseOf (D.state dumps.old) (D.state dumps.new)) }
         ensures skeleton { IfOk result (λ s. IfTold (D.state dumps.old).now
             (λ dump. s ≡ skeleton_for dump index.now pid.now)) }
+        ensures cells { IfOk result (λ s. length s.leads ≡ length s.addresses) }
     {
         let heap = index.first(b"proc_heap", Some(pid));
         let literals = index.first_tag(b"literals");
         let (held, own) = read_lines(alloc, dumps, index, heap, literals)?;
-        Ok(skeleton_of(settle(alloc, held, own)?))
+        Ok(skeleton_of(alloc, settle(alloc, held, own)?)?)
     }
 
     /// The number of cells.

@@ -1,19 +1,24 @@
--- Places among the numbers of cells in the order of their addresses.
-use Rattle.std.specs.Prelude.{◌≡◌, ℕ, ◌-◌, ◌==◌, ◌||◌, Bool, true, false, not, nat_lt, List, slice_index_or}
+-- Places among numbers, and among pairs, in the order of their addresses.
+use Rattle.std.specs.Prelude.{◌≡◌, ℕ, ◌-◌, ◌<◌, ◌≤◌, ◌==◌, ◌||◌, Bool, true, false, not, nat_lt, List, length, slice_index_or}
 use Rattle.std.specs.List.Sorted.{IsPartitionPoint}
-use Rattle.cell_records.specs.declared.cells.CellRecord.{CellRecord}
 use Rattle.cell_records.specs.Order.{address_in}
 
--- the numbers of cells with lower addresses are those before this place
-abbrev pub IsPointOf : List CellRecord → ℕ → List ℕ → ℕ → Type 0
-IsPointOf cells address order place =
-    IsPartitionPoint (λ n. nat_lt (address_in cells n) address ≡ true) (λ n. nat_lt (address_in cells n) address ≡ false) order place
+-- the numbers with lower addresses are those before this place
+abbrev pub IsPointOf : List ℕ → ℕ → List ℕ → ℕ → Type 0
+IsPointOf addresses address order place =
+    IsPartitionPoint (λ n. nat_lt (address_in addresses n) address ≡ true) (λ n. nat_lt (address_in addresses n) address ≡ false) order place
 
--- the address of the cell whose number stands at a place
-abbrev pub address_at_place : List CellRecord → List ℕ → ℕ → ℕ
-address_at_place cells order place = address_in cells (slice_index_or order place 0)
+-- there is such a number, and it has this address
+pub record StandsAt (addresses : List ℕ) (number address : ℕ) : Type 0 where
+  pub within : number < length addresses
+  pub address_is : address_in addresses number ≡ address
 
--- whether it has another address than the cell whose number stands before it, if there is one
-abbrev pub begins_at : List CellRecord → List ℕ → ℕ → Bool
-begins_at cells order place =
-    (place == 0) || not (address_at_place cells order (place - 1) == address_at_place cells order place)
+-- how many of the pairs have an address lower than this one: these come first
+pub record IsFirstFrom (pairs : List (ℕ × ℕ)) (address at : ℕ) : Type 0 where
+  pub within : at ≤ length pairs
+  pub front : (i : ℕ) → i < at → (slice_index_or pairs i (0, 0)).0 < address
+  pub behind : at < length pairs → address ≤ (slice_index_or pairs at (0, 0)).0
+
+-- whether a pair has another address than the one before it, if there is one
+abbrev pub begins_at : List (ℕ × ℕ) → ℕ → Bool
+begins_at pairs place = (place == 0) || not ((slice_index_or pairs (place - 1) (0, 0)).0 == (slice_index_or pairs place (0, 0)).0)

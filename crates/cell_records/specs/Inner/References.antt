@@ -1,5 +1,5 @@
 -- The references among the slots, and what is found of each.
-use Rattle.std.specs.Prelude.{◌≡◌, ℕ, ◌<◌, ◌≤◌, List, [], ◌∷◌, length, slice_get, slice_set, slice_index_or, Option, None, Some, All, Contains}
+use Rattle.std.specs.Prelude.{◌≡◌, ℕ, List, [], ◌∷◌, slice_get, slice_set, Option, None, Some, All, Contains}
 use Rattle.cell_records.specs.declared.cells.Slot.{Slot}
 use Rattle.cell_records.specs.declared.cells.Slot.TheVariants as slot
 
@@ -12,12 +12,6 @@ reference_of other place = []
 pub record AreReferences (slots : List Slot) (references : List (ℕ × ℕ)) : Type 0 where
   pub sound : All (λ (r : ℕ × ℕ). slice_get slots r.1 ≡ Some (slot.Gone r.0)) references
   pub complete : (i address : ℕ) → slice_get slots i ≡ Some (slot.Gone address) → Contains references (address, i)
-
--- how many of the pairs have an address lower than this one: these come first
-pub record IsFirstFrom (pairs : List (ℕ × ℕ)) (address at : ℕ) : Type 0 where
-  pub within : at ≤ length pairs
-  pub front : (i : ℕ) → i < at → (slice_index_or pairs i (0, 0)).0 < address
-  pub behind : at < length pairs → address ≤ (slice_index_or pairs at (0, 0)).0
 
 -- a slot becomes the cell with the number that was found, if one was
 abbrev pub found_at : List Slot → ℕ → Option ℕ → List Slot

@@ -13,7 +13,7 @@ use Rattle.cell_records.specs.declared.cells.Slot.TheVariants as slot
 use Rattle.cell_records.specs.declared.cells.Span.{Span}
 use Rattle.heap_cells.specs.Cells.{Cell, elements_in, kind_of, addresses}
 use Rattle.heap_cells.specs.Targets.{target, slot_target}
-use Rattle.cell_records.specs.Order.{IsOrder}
+use Rattle.cell_records.specs.Order.{addresses_of, IsOrder}
 use Rattle.cell_records.specs.Slots.{slots_at}
 use Rattle.heap_cells.specs.Inner.Parts.{IsPart}
 
@@ -84,4 +84,4 @@ pub record IsArena (text : List ℕ) (seam : ℕ) (enc : Enc) (records : List Ce
   pub few : length records + length slots ≤ usual.dense
   pub distinct : IsDistinct nat_eq (addresses (cells_in text enc records))
   pub slots_are : AreSlots text seam enc (cells_in text enc records) records slots
-  pub order_is : IsOrder records order
+  pub order_is : IsOrder (addresses_of records) order

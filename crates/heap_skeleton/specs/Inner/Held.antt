@@ -51,6 +51,10 @@ parts_of first (line ∷ lines) =
     record { address = line.cell.address; line = line.at; first = first; words = words_in line.cell.form }
     ∷ parts_of (first + length (marks_of line)) lines
 
+-- the addresses of parts
+abbrev pub addresses_of : List CellPart → List ℕ
+addresses_of parts = map (λ p. p.address) parts
+
 -- where the elements of the part with a number begin; past the last one, where all elements end
 abbrev pub start_at : List CellPart → ℕ → ℕ → ℕ
 start_at parts i total = option_map_or (λ p. p.first) (slice_get parts i) total

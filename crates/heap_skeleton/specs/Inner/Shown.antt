@@ -3,9 +3,9 @@ use Rattle.std.specs.Prelude.{◌≡◌, ℕ, ◌<◌, ◌≤◌, List, [], ◌�
 use Rattle.cell_records.specs.declared.cells.Kind.{Kind}
 use Rattle.heap_skeleton.specs.declared.held.CellPart.{CellPart}
 use Rattle.heap_skeleton.specs.Inner.Leads.{cell_for}
-use Rattle.heap_skeleton.specs.Inner.Order.{IsOrder}
+use Rattle.cell_records.specs.Order.{IsOrder}
 use Rattle.cell_graphs.specs.Graphs.{Graph, LeadsWithin, graph_of}
-use Rattle.heap_skeleton.specs.Inner.Held.{HeapLine, line_kind}
+use Rattle.heap_skeleton.specs.Inner.Held.{HeapLine, addresses_of, line_kind}
 use Rattle.cell_words.specs.Words.{words_in}
 use Rattle.heap_skeleton.specs.Skeletons.{SkeletonMap}
 
@@ -29,7 +29,7 @@ AreLaid (part ∷ parts) total = (part.first ≤ start_of parts total) × (start
 abbrev pub shown_skeleton : ℕ → List CellPart → List (Option Kind) → List ℕ → SkeletonMap
 shown_skeleton own parts kinds leads = record {
   own = own;
-  addresses = map (λ p. p.address) parts;
+  addresses = addresses_of parts;
   lines = map (λ p. p.line) parts;
   kinds = kinds;
   words = map (λ p. p.words) parts;
@@ -43,7 +43,7 @@ pub record IsSound (own : ℕ) (parts : List CellPart) (kinds : List (Option Kin
   pub kinds_are : length kinds ≡ length parts
   pub laid : AreLaid parts (length leads)
   pub leads_within : LeadsWithin (leads_from parts leads)
-  pub order_is : IsOrder parts order
+  pub order_is : IsOrder (addresses_of parts) order
 
 -- the skeleton of the cells of lines with different addresses
 abbrev pub skeleton_with : ℕ → List HeapLine → SkeletonMap

@@ -3,7 +3,7 @@ use Rattle.cell_records.proofs.keeping.index_cells.Goals as goal
 
 pub returns-then-are_apart : goal.returns-then-are_apart
 returns-then-are_apart c =
-    all-index c.args.all c.args.own c.in_ok-found.found (c.are_apart.ensures.first c.if-are_apart.true) c.requires.cells c.in_ok-found.ensures
+    all-index c.args.all c.args.own c.in_ok-found.found (c.are_apart.ensures.first c.if-are_apart.true) c.in_ok-found.ensures
 
 pub returns : goal.returns
 returns c =

@@ -1,5 +1,8 @@
-use Rattle.std.proofs.Common.{◌+◌, length, sym, ◌∙◌, ap, subst, arith}
+use Rattle.std.proofs.Common.{◌≡◌, ◌+◌, length, sym, ◌∙◌, ap, subst, arith}
+use Rattle.std.proofs.lemmas.List.{length-map}
 use Rattle.cell_records.specs.declared.arena.Arena.{Arena}
+use Rattle.cell_records.specs.declared.cells.CellRecord.{CellRecord}
+use Rattle.cell_records.specs.Order.{addresses_of}
 use Rattle.cell_records.specs.Inner.Keeping.{IsKeeping}
 use Rattle.cell_records.proofs.KeepingFacts.{keeping-first, keeping-other, kept-few}
 use Rattle.cell_records.proofs.keeping.keep_part.Goals as goal
@@ -17,10 +20,11 @@ pub loop-i-preserved : goal.loop-i-preserved
 loop-i-preserved c =
     let all = c.args.all.now in
     let i = c.loop-i.i in
+    let count : length (addresses_of all.cells.items) ≡ length all.cells.items = length-map all.cells.items (λ (r : CellRecord). r.address) in
     elim c.if-firsts-i.branch [
       | then-firsts-i+in_ok-keep_cell w ↦ subst (λ (a : Arena). IsKeeping all a (i + 1)) (sym w.kept-is)
-          (keeping-first all c.loop-i.kept w.keep_cell.new.kept i (sym (c.requires.firsts.each i (omega arith)) ∙ w.if-firsts-i.true)
+          (keeping-first all c.loop-i.kept w.keep_cell.new.kept i (sym (c.requires.firsts.each i (omega (arith, count))) ∙ w.if-firsts-i.true)
           c.loop-i.invariant w.in_ok-keep_cell.ensures.cells w.in_ok-keep_cell.ensures.slots)
       | else-firsts-i w ↦ subst (λ (a : Arena). IsKeeping all a (i + 1)) (sym w.kept-is)
-          (keeping-other all c.loop-i.kept i (sym (c.requires.firsts.each i (omega arith)) ∙ w.if-firsts-i.false) c.loop-i.invariant)
+          (keeping-other all c.loop-i.kept i (sym (c.requires.firsts.each i (omega (arith, count))) ∙ w.if-firsts-i.false) c.loop-i.invariant)
     ]

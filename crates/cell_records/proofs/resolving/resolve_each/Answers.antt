@@ -1,7 +1,8 @@
 use Rattle.std.proofs.Common.{◌≡◌, ℕ, ◌+◌, List, get_or, sym, ◌∙◌, ap, subst, arith}
 use Rattle.cell_records.specs.declared.cells.Slot.{Slot}
-use Rattle.cell_records.specs.Order.{record_with}
-use Rattle.cell_records.specs.Inner.References.{found_at, IsFirstFrom}
+use Rattle.cell_records.specs.Order.{number_with}
+use Rattle.cell_records.specs.Inner.Places.{IsFirstFrom}
+use Rattle.cell_records.specs.Inner.References.{found_at}
 use Rattle.cell_records.proofs.ResolvingFacts.{IsMerging, merging-more, resolving-all}
 use Rattle.cell_records.proofs.resolving.resolve_each.Goals as goal
 
@@ -15,9 +16,9 @@ loop-k-preserved c =
     (merging-more c.args.ranks.now c.args.slots.now c.loop-k.slots c.args.references.now c.loop-k.at c.first_from-at.result c.loop-k.k number (omega arith)
     c.requires.references c.requires.ascend c.loop-k.invariant
     (subst (λ (r : ℕ × ℕ). IsFirstFrom c.args.ranks.now r.0 c.first_from-at.result) pair c.first_from-at.ensures)
-    (λ rs few ranked. c.number_there-number.ensures rs few ranked ∙ ap (λ (r : ℕ × ℕ). record_with rs r.0) pair))
+    (λ xs ranked. c.number_there-number.ensures xs ranked ∙ ap (λ (r : ℕ × ℕ). number_with xs r.0) pair))
 
 pub returns : goal.returns
-returns c cells few ranked =
-    resolving-all cells c.args.slots.now c.loop-k.slots c.args.references.now c.loop-k.k c.requires.references
-    (omega arith) (c.loop-k.invariant.resolving cells few ranked)
+returns c addresses ranked =
+    resolving-all addresses c.args.slots.now c.loop-k.slots c.args.references.now c.loop-k.k c.requires.references
+    (omega arith) (c.loop-k.invariant.resolving addresses ranked)

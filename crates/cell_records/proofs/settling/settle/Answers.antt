@@ -4,4 +4,4 @@ use Rattle.cell_records.proofs.settling.settle.Goals as goal
 
 pub returns : goal.returns
 returns c =
-    settled-index c.args.all c.args.own c.in_ok-arena.field-0 _ c.requires.cells c.in_ok-arena.ensures refl refl c.in_ok-resolve.ensures c.in_ok-order.ensures.order
+    settled-index c.args.all c.args.own c.in_ok-arena.field-0 _ c.in_ok-arena.ensures refl refl c.in_ok-resolve.ensures c.in_ok-order.ensures.order

@@ -6,17 +6,17 @@ use Rattle.heap_cells.specs.contracts.heap.Heap.{the_invariant, the_view}
 use Rattle.heap_cells.specs.Cells.{kind_of}
 use Rattle.heap_cells.specs.HeapMap.{HeapMap, number_at, form_at}
 use Rattle.heap_cells.specs.Inner.Texts.{text_of, seam_of}
-use Rattle.cell_records.specs.Order.{record_with}
+use Rattle.cell_records.specs.Order.{addresses_of, number_with}
 use Rattle.heap_cells.proofs.RecordFacts.{number-at, read-from, form-of, no-kind, some-kind}
 use Rattle.heap_cells.proofs.TargetFacts.{number_at-within}
 use Rattle.heap_cells.proofs.heap.Heap.at.Goals as goal
 
 -- the number of the cell with the address
 numbered : (h : Inside) (map : HeapMap) (cells : List CellRecord) (address : ℕ) (found result : Option ℕ) → the_view h ≡ map → cells ≡ h.arena.cells.items
-    → result ≡ record_with cells address → result ≡ found → number_at map.cells address ≡ found
+    → result ≡ number_with (addresses_of cells) address → result ≡ found → number_at map.cells address ≡ found
 numbered h map cells address found result view same is was =
-    let here : record_with cells address ≡ number_at map.cells address =
-    ap (λ l. record_with l address) same ∙ number-at (text_of h.texts) h.texts.enc h.arena.cells.items map.cells address (ap (λ (m : HeapMap). m.cells) view) in
+    let here : number_with (addresses_of cells) address ≡ number_at map.cells address =
+    ap (λ l. number_with (addresses_of l) address) same ∙ number-at (text_of h.texts) h.texts.enc h.arena.cells.items map.cells address (ap (λ (m : HeapMap). m.cells) view) in
     sym here ∙ sym is ∙ was
 
 kind : (h : Inside) (map : HeapMap) (n : ℕ) (r : CellRecord) → the_invariant h → the_view h ≡ map → n < length map.cells → r ≡ get_or h.arena.cells.items n r

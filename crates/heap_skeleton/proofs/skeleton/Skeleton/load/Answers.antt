@@ -16,7 +16,7 @@ returns-clause-skeleton g c = λ dump is.
     let kept = c.in_ok-settle.ensures.kept in
     let hs = holds.heap_lines in
     let ls = holds.literal_lines in
-    c.skeleton_of.ensures (first_lines [] (hs ++ ls)) (kept.held_is (hs ++ ls) holds.held_is)
+    c.in_ok-skeleton_of.ensures.lines (first_lines [] (hs ++ ls)) (kept.held_is (hs ++ ls) holds.held_is)
     ∙ skeleton-sections (enc_of index.version) dump index (section_in index c.first-heap.result) (section_in index c.first_tag-literals.result) c.in_ok-settle.field-0.settled.own c.in_ok-held.own hs ls
     refl (holds.heap_are dump is) (holds.literals_are dump is) holds.own_is (kept.own_is (hs ++ ls) holds.held_is)
     ∙ ap₂ (skeleton_in dump index) c.first-heap.ensures.section c.first_tag-literals.ensures.section

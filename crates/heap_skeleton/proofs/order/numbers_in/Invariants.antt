@@ -1,5 +1,0 @@
-use Rattle.std.proofs.Common.{◌≡◌, ℕ, map, take}
-use Rattle.heap_skeleton.proofs.order.numbers_in.Given as goal
-
-abbrev pub invariant-loop-pair : goal.invariant-loop-pair
-invariant-loop-pair l = l.numbers.items ≡ map (λ (pair : ℕ × ℕ). pair.1) (take l.pair-index l.pairs)
