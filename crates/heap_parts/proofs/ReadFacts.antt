@@ -62,7 +62,7 @@ filled-behind from at bytes into dump inside size is =
 
 -- what was appended stands behind what was there
 pub piece-behind : (lines grown bytes piece : List ℕ) (kept : ℕ) → kept ≡ length lines → bytes ≡ grown → grown ≡ lines ++ piece → drop kept bytes ≡ piece
-piece-behind lines grown bytes piece kept is same pushed = ap (drop kept) (same ∙ pushed) ∙ ap (λ n. drop n (lines ++ piece)) is ∙ drop-front lines piece
+piece-behind lines grown bytes piece kept is same pushed = ap (drop kept) (same ∙ pushed) ∙ ap (λ n. drop n (lines ++ piece)) is ∙ drop-append_seam lines piece
 
 -- what was read so far
 pub record HasRead (old lines front : List ℕ) : Type 0 where

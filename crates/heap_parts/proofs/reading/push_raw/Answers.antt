@@ -1,9 +1,10 @@
+use Rattle.std.proofs.Math.Seq.{take-append-add}
 use Rattle.std.proofs.Common.{◌≡◌, ◌+◌, ◌-◌, ◌≤◌, ◌++◌, length, length-drop, take, refl, ◌∙◌, ap, arith, subst}
 use Rattle.std.proofs.lemmas.List.{length-take-le}
 use Rattle.std.specs.List.{between}
 use Rattle.dump_io.specs.Laws.Reads.{ReadsAtMost-both}
 use Rattle.heap_parts.specs.Inner.Pieces.{BeginsLine, IsFirstLine}
-use Rattle.heap_parts.proofs.ReadFacts.{piece-behind, read-more, read-line, read-end, take-behind}
+use Rattle.heap_parts.proofs.ReadFacts.{piece-behind, read-more, read-line, read-end}
 use Rattle.heap_parts.proofs.reading.push_raw.Given.{Over}
 use Rattle.heap_parts.proofs.reading.push_raw.Goals as goal
 
@@ -46,7 +47,7 @@ returns-in-Some-clause-pushed g c = λ dump is.
     let behind = piece-behind lines grown c.deref.result.now piece c.len-kept.result kept c.deref.ensures.value pushed in
     read-line c.args.lines.now.items lines c.truncate.new.self.items piece dump c.args.from c.loop-at.at count c.args.upto end before.order
     (omega (arith, c.piece_len-count.ensures.left, c.loop-at-test.true)) (before.read dump is) refl (subst (λ p. IsFirstLine (take end p)) behind c.in-Some.ensures.2)
-    (c.truncate.ensures.items ∙ ap (λ n. take (n + end) grown) kept ∙ ap (take (length lines + end)) pushed ∙ take-behind lines piece end)
+    (c.truncate.ensures.items ∙ ap (λ n. take (n + end) grown) kept ∙ ap (take (length lines + end)) pushed ∙ take-append-add lines piece end)
 
 pub loop-at-preserved : goal.loop-at-preserved
 loop-at-preserved g c =
