@@ -2,6 +2,7 @@
 use Rattle.std.proofs.Common.{◌≡◌, ℕ, ◌+◌, ◌≤◌, ◌==◌, List, None, Some, Option, Result, Ok, Err, refl, sym, ◌∙◌, ap, subst, arith}
 use Rattle.std.specs.Prelude.{is_some, IfOk}
 use Rattle.std.specs.Option.{option_map, option_or}
+use Rattle.dump_io.specs.Laws.Options.{is_some-map}
 use Rattle.dump_io.specs.Dumps.{DeviceState, ReadsAtMost, told as dumps_told}
 use Rattle.dump_io.specs.Laws.Lists.{position-map}
 use Rattle.dump_io.specs.Limits.{Numbers}
@@ -50,14 +51,10 @@ module _ {A : Type 0} (pid : List ℕ) (before : List Section → List Section) 
   IsHalted-weights fault takes cause =
       record { takes = takes; cause = StopsFor-too old new (λ why. ⊥) _ (stop_of_weights fault) (StopsFor-weights old new fault cause) (λ why none. absurd none) }
 
-some-map : {A B : Type 0} (f : A → B) (found : Option A) → is_some (option_map f found) ≡ is_some found
-some-map f None = refl
-some-map f (Some x) = refl
-
 -- there is a cell at the address exactly if its parts were weighed
 pub found-told : (pid bytes : List ℕ) (index : Contents) (addr : ℕ) → index ≡ index_of bytes → no_address addr (heap_map pid bytes) ≡ address_cause addr (is_some (address_weighing bytes index pid addr))
 found-told pid bytes index addr is =
-    rw (is) (ap (address_cause addr) (sym (some-map (cell_weighing (skeleton_for bytes (index_of bytes) pid)) _ ∙ ap is_some (position-map (λ a. a == addr) (λ (c : Cell). c.address) (heap_map pid bytes).cells))))
+    rw (is) (ap (address_cause addr) (sym (is_some-map (cell_weighing (skeleton_for bytes (index_of bytes) pid)) _ ∙ ap is_some (position-map (λ a. a == addr) (λ (c : Cell). c.address) (heap_map pid bytes).cells))))
 
 -- the parts of the cell at an address were weighed, or it is refused, since there is none
 module _ (pid : List ℕ) (addr : ℕ) (show : Option Weighing → List ℕ) (limits : Numbers) (index : Contents) (old new : DeviceState) (there : no_process pid (sections_in index) ≡ None)

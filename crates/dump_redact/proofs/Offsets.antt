@@ -112,12 +112,6 @@ piece-long room size count total big is all =
 
 -- ---- where the sections of a dump begin and end, and what is made of a piece with some of them
 
--- what is open has the size of the index that was built over it
-pub built-size : (now : Now) (index : Contents) → IsBuiltOver now index → IsOpen now × (index.size ≡ size_of now)
-built-size closed index over = absurd over
-built-size (told dump) index over = (tt, over.size)
-built-size (sized size) index over = (tt, over)
-
 -- the index of a dump that is told
 pub built-told : (now : Now) (index : Contents) (dump : List ℕ) → IsBuiltOver now index → now ≡ told dump → IsIndexOf dump index
 built-told now index dump over is = subst (λ n. IsBuiltOver n index) is over

@@ -5,8 +5,9 @@ use Rattle.std.specs.List.{position_from}
 use Rattle.std.specs.Option.{option_eq, option_or}
 use Rattle.std.specs.Str.{bytes_eq}
 use Rattle.std.proofs.lemmas.Iterator.Adapters.{position_from-zero}
+use Rattle.dump_io.specs.Dumps.{Now, closed, told, sized, size_of, IsOpen}
 use Rattle.dump_io.specs.Lines.{Header, headers}
-use Rattle.dump_sections.specs.Index.{Contents, IsIndexOf, index_of}
+use Rattle.dump_sections.specs.Index.{Contents, IsBuiltOver, IsIndexOf, index_of}
 use Rattle.dump_sections.specs.Lookups.{has_tag, is_named}
 use Rattle.dump_sections.specs.Sections.{Section, id_of, sections_of}
 use Rattle.dump_sections.specs.declared.version.Version.{Version}
@@ -24,6 +25,12 @@ length-sections_of (header ∷ rest) size = ap suc (length-sections_of rest size
 -- an index of accepted bytes is the one that they have
 pub index-is : (bytes : List ℕ) (index : Contents) → IsIndexOf bytes index → index ≡ index_of bytes
 index-is bytes index of = grind arith
+
+-- what is open has the size of the index that was built over it
+pub built-size : (now : Now) (index : Contents) → IsBuiltOver now index → IsOpen now × (index.size ≡ size_of now)
+built-size closed index over = absurd over
+built-size (told dump) index over = (tt, over.size)
+built-size (sized size) index over = (tt, over)
 
 -- ---- the first section with a tag and an id, where a section comes behind the others
 

@@ -8,6 +8,7 @@ use Rattle.dump_io.specs.Dumps.{Now, closed, told, sized, size_of, IsOpen, IfTol
 use Rattle.dump_io.specs.Laws.Options.{none-where, or-some, or-second}
 use Rattle.dump_io.specs.Lines.{text_of}
 use Rattle.dump_sections.specs.Bodies.{body_in}
+use Rattle.dump_sections.specs.Laws.{built-size}
 use Rattle.dump_sections.specs.Index.{Contents, sections_in, index_of, IsBuiltOver}
 use Rattle.dump_sections.specs.Laws.{index-is}
 use Rattle.dump_sections.specs.Sections.{Section}
@@ -123,12 +124,6 @@ line-pushed lines now all a span old new has whole is pushed =
     ∙ sym (spanned lines has.dump a has.heap has.literals) ∙ ap (λ cells. first_with cells a) (sym has.cells))
 
 -- ---- what is loaded
-
--- what is open has the size of the index that was built over it
-pub built-size : (now : Now) (index : Contents) → IsBuiltOver now index → IsOpen now × (index.size ≡ size_of now)
-built-size closed index over = absurd over
-built-size (told dump) index over = (tt, over.size)
-built-size (sized size) index over = (tt, over)
 
 -- the lines of a section that may be missing
 pub body-read : (now : Now) (found : Option Section) (lines : BodyLines) (from end : ℕ) → lines.from ≡ from → lines.end ≡ end → end ≤ size_of now

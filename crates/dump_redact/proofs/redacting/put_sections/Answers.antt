@@ -5,7 +5,8 @@ use Rattle.dump_redact.specs.Redacted.{redacted}
 use Rattle.dump_redact.specs.Inner.Places.{offset_of}
 use Rattle.dump_redact.proofs.Copies.{Copies-failed, break-read}
 use Rattle.dump_redact.proofs.Alike.{keeps-length}
-use Rattle.dump_redact.proofs.Offsets.{built-size, built-told, offset-rise, offset-less, offset-within, length-part}
+use Rattle.dump_sections.specs.Laws.{built-size}
+use Rattle.dump_redact.proofs.Offsets.{built-told, offset-rise, offset-less, offset-within, length-part}
 use Rattle.dump_redact.proofs.redacting.put_sections.Goals as goal
 
 pub read_piece-requires-clause-held : goal.read_piece-requires-clause-held
