@@ -9,18 +9,16 @@ use Rattle.std.proofs.lemmas.List.{get_or-map, length-map}
 use Rattle.std.proofs.lemmas.List.Elements.{All-map}
 use Rattle.std.proofs.lemmas.Nat.{div-add-mod', div-mul-add, le-div, mod-mul-add, mod_below, or_shifted, pow_pos}
 use Rattle.cell_records.specs.Order.{rank, AreSorted}
-use Rattle.cell_records.specs.Inner.Ranks.{pair_at, pairs_in, reach, AreNumbered, IsSplit}
-use Rattle.cell_records.specs.declared.ranks.Kept.{Kept}
-use Rattle.cell_records.specs.declared.ranks.Kept.TheVariants.{Narrow, Wide}
+use Rattle.cell_records.specs.Inner.Ranks.{pair_at, reach}
 
-pub pow-most : (bits : ℕ) → bits ≤ 32 → 2 ^ bits ≤ 2 ^ 32
+pow-most : (bits : ℕ) → bits ≤ 32 → 2 ^ bits ≤ 2 ^ 32
 pow-most bits few = pow-le-pow_right (omega arith) few
 
-pub div-rises : (a b m : ℕ) → 0 < m → a ≤ b → a / m ≤ b / m
+div-rises : (a b m : ℕ) → 0 < m → a ≤ b → a / m ≤ b / m
 div-rises a b m more up = let whole = div-mul-le_self a m in le-div (a / m) b m more (omega (arith, whole, up))
 
 -- the lowest bits of a number
-pub few-low : (n bits : ℕ) → bits ≤ 32 → n % 2 ^ bits < 2 ^ 32
+few-low : (n bits : ℕ) → bits ≤ 32 → n % 2 ^ bits < 2 ^ 32
 few-low n bits few = let low = mod_below n (2 ^ bits) (pow_pos bits) in let most = pow-most bits few in omega (arith, low, most)
 
 -- ---- the order of what is kept
@@ -53,10 +51,6 @@ narrow-ranked base bits ranks few sorted i j d up inside =
 
 pub narrow-numbered : (base bits : ℕ) (ranks : List ℕ) → bits ≤ 32 → All (λ (p : ℕ × ℕ). p.1 < 2 ^ 32) (map (pair_at base bits) ranks)
 narrow-numbered base bits ranks few = All-map (λ (p : ℕ × ℕ). p.1 < 2 ^ 32) (pair_at base bits) ranks (λ k d inside. few-low (get_or ranks k d) bits few)
-
-pub numbered : (base bits : ℕ) (kept : Kept) → IsSplit base bits → AreNumbered kept → All (λ (p : ℕ × ℕ). p.1 < 2 ^ 32) (pairs_in base bits kept)
-numbered base bits (Narrow ranks) split are = narrow-numbered base bits ranks.items split.few
-numbered base bits (Wide pairs) split are = are
 
 -- ---- a pair that fits
 
