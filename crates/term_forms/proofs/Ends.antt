@@ -1,5 +1,5 @@
 -- What is left of a text while it is read, and the elements that stand there.
-use Rattle.std.proofs.Common.{◌≡◌, ℕ, ◌+◌, ◌-◌, ◌<◌, ◌≤◌, List, [], ◌∷◌, ◌++◌, length, drop, Option, Some, None, refl, sym, ◌∙◌, ap, arith, length-append, append_assoc}
+use Rattle.std.proofs.Common.{◌≡◌, ℕ, zero, suc, ◌+◌, ◌-◌, ◌<◌, ◌≤◌, List, [], ◌∷◌, ◌++◌, length, drop, Option, Some, None, refl, sym, ◌∙◌, ap, arith, length-append, append_assoc}
 use Rattle.std.specs.Prelude.{IfSome}
 use Rattle.std.specs.Option.{option_map}
 use Rattle.std.specs.Borrow.{Bor}
@@ -69,6 +69,13 @@ pub not-over : (rest : List ℕ) → (length rest ≡ 0 → ⊥) → joined_of 0
 unfolding joined_of
 not-over [] some = absurd (some refl)
 not-over (c ∷ rest) some = refl
+
+-- of no element none is left, whatever stands there
+pub end-over : (rest : List ℕ) (count : ℕ) → count ≡ 0 → IfSome (joined_of count rest) (λ es. es ≡ [])
+unfolding joined_of
+end-over [] zero none = refl
+end-over (c ∷ rest) zero none = tt
+end-over rest (suc n) none = absurd (omega (arith, none))
 
 -- there are no more elements than bytes
 pub end-few : (text rest : List ℕ) (count : ℕ) → IsEnd text rest → IfSome (joined_of count rest) (λ es. length es ≤ length text)

@@ -103,6 +103,7 @@ impl<'a> Joined<'a> {
     pub fn left(&self) -> u64
         ensures count { result ≡ self.now.count }
         ensures few { IfSome self.now.elements (λ es. length es ≤ length self.now.text) }
+        ensures over { result ≡ 0 → IfSome self.now.elements (λ es. es ≡ []) }
     {
         self.left
     }
