@@ -26,7 +26,7 @@ use Rattle.message_shapes.specs.Inner.CellTexts.{comma_behind, element_text, inn
 use Rattle.message_shapes.specs.Inner.Shaped.{messages_with, shape_with}
 use Rattle.message_shapes.specs.Inner.Telling.{cell_with, content_origin, origin_cells, root_told, roots_told, told_cells, OfCell, OfText, Told}
 use Rattle.message_shapes.specs.Inner.Tuples.{TupleMap, front_at, is_tuple, is_tuple_kind, lead_tuple, needed, needed_at, place_of}
-use Rattle.message_shapes.proofs.CommaFacts.{comma-last}
+use Rattle.message_shapes.proofs.CommaFacts.{comma-last, tags-count}
 use Rattle.message_shapes.proofs.SetFacts.{found-place}
 
 -- ---- a tuple
@@ -45,10 +45,6 @@ tuple-shown all shown count count_is shown_is =
 tags-take : (es : List Element) → tag_texts (take 8 es) ≡ take 8 (tag_texts es)
 tags-take [] = refl
 tags-take (e ∷ es) = ap (λ l. tag_text e ∷ l) (sym (take-map (λ e. codes "_") 7 es))
-
-tags-size : (es : List Element) → length (tag_texts es) ≡ length es
-tags-size [] = refl
-tags-size (e ∷ es) = ap suc (length-map es (λ e. codes "_"))
 
 -- ---- numbers in a list
 
@@ -99,7 +95,7 @@ module _ (heap : HeapMap) (lines : List ℕ) (t : TupleMap) (rising : IsStrictly
   inner-by None front known = refl
   inner-by (Some (Tuple es)) front known =
       tuple-shown (tag_texts es) (tag_texts front) (length (places_of cells (Some (Tuple es))))
-      (length-map es (λ e. cell_in (target cells e)) ∙ sym (tags-size es))
+      (length-map es (λ e. cell_in (target cells e)) ∙ sym (tags-count es))
       (ap tag_texts (known refl) ∙ tags-take es)
   inner-by (Some form) front known = refl
 

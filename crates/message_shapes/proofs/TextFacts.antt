@@ -1,10 +1,9 @@
 -- Texts in one pool.
-use Rattle.std.proofs.Common.{◌≡◌, ℕ, ◌+◌, ◌-◌, List, [], ◌∷◌, ◌++◌, length, take, refl, ◌∙◌, ap, ap₂, arith}
+use Rattle.std.proofs.Common.{◌≡◌, ℕ, ◌+◌, List, [], ◌∷◌, ◌++◌, length, refl, ◌∙◌, ap₂}
 use Rattle.std.specs.Prelude.{All, slice_range}
-use Rattle.std.proofs.Math.Seq.{drop-append_seam, take-length}
 use Rattle.std.proofs.lemmas.List.{map-append}
 use Rattle.std.proofs.lemmas.List.Elements.{All-head, All-tail}
-use Rattle.dump_io.specs.Laws.Lists.{between-grown}
+use Rattle.dump_io.specs.Laws.Lists.{between-grown, range-last}
 use Rattle.message_shapes.specs.Inner.Texts.{text_in, shown_texts, AreWithin, IsWithin}
 use Rattle.message_shapes.specs.declared.texts.Span.{Span}
 
@@ -16,14 +15,6 @@ texts-kept pool more (span ∷ spans) within =
     ap₂ (λ text texts. text ∷ texts) (between-grown pool more span.from span.upto here.ordered here.within)
     (texts-kept pool more spans (All-tail (IsWithin (length pool)) span spans within))
 
--- what was put behind it
-text-last : (pool text : List ℕ) → slice_range (pool ++ text) (length pool) (length pool + length text) ≡ text
-text-last pool text =
-    let size : length pool + length text - length pool ≡ length text = omega arith in
-    ap (take (length pool + length text - length pool)) (drop-append_seam pool text)
-    ∙ ap (λ n. take n text) size
-    ∙ take-length text
-
 -- one more text
 pub texts-pushed : (pool text : List ℕ) (spans : List Span) (from upto : ℕ) → AreWithin pool spans → from ≡ length pool → upto ≡ length pool + length text
     → shown_texts (pool ++ text) (spans ++ (let span : Span = record { from = from; upto = upto } in span) ∷ []) ≡ shown_texts pool spans ++ text ∷ []
@@ -31,4 +22,4 @@ texts-pushed pool text spans from upto within from_is upto_is =
     let span : Span = record { from = from; upto = upto } in
     map-append (text_in (pool ++ text)) spans (span ∷ [])
     ∙ ap₂ (λ texts last. texts ++ last ∷ []) (texts-kept pool text spans within)
-    (ap₂ (λ a b. slice_range (pool ++ text) a b) from_is upto_is ∙ text-last pool text)
+    (ap₂ (λ a b. slice_range (pool ++ text) a b) from_is upto_is ∙ range-last pool text)

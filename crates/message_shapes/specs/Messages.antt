@@ -1,11 +1,11 @@
 -- The messages of a mailbox, and their shapes. Offsets are of the file.
 use Rattle.std.specs.Prelude.{ℕ, List, [], map, filter, slice_index_or, Option}
-use Rattle.dump_sections.specs.Bodies.{body_in}
+use Rattle.dump_sections.specs.Bodies.{body_in, body_start}
 use Rattle.dump_sections.specs.Index.{Contents, sections_in}
 use Rattle.dump_sections.specs.Sections.{Section}
 use Rattle.heap_cells.specs.Cells.{Cell}
 use Rattle.heap_cells.specs.Loading.{heap_section, literals_section}
-use Rattle.heap_skeleton.specs.Skeletons.{body_start, heap_in}
+use Rattle.heap_skeleton.specs.Skeletons.{heap_in}
 use Rattle.root_lines.specs.Placed.{placed_roots}
 use Rattle.root_views.specs.Roots.{BodyRoot, is_message}
 use Rattle.root_views.specs.Sections.{root_section}

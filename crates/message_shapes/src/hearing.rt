@@ -1,8 +1,8 @@
 // Hearing the messages of a mailbox.
-ghost use Rattle.std.specs.Prelude.{◌≡◌, ◌-◌, ◌<◌, ◌≤◌, ◌++◌, [], ◌∷◌, length, codes, IfErr, IfOk, IfSome, OnOk};
+ghost use Rattle.std.specs.Prelude.{◌≡◌, ◌++◌, [], ◌∷◌, length, codes, IfErr, IfOk, OnOk};
 ghost use Rattle.std.specs.Str.{bytes_eq};
-ghost use Rattle.dump_io.specs.Dumps.{size_of, IfTold, IsOpen, ReadsAtMost};
-ghost use Rattle.dump_sections.specs.Bodies.{body_size, section_in};
+ghost use Rattle.dump_io.specs.Dumps.{IfTold, ReadsAtMost};
+ghost use Rattle.dump_sections.specs.Bodies.{body_size, section_in, IsPlaceIn};
 ghost use Rattle.dump_sections.specs.Index.{sections_in, IsBuiltOver};
 ghost use Rattle.term_forms.specs.Seen.{element};
 ghost use Rattle.root_lines.specs.Shown.{IsRootsCauseOf};
@@ -10,7 +10,7 @@ ghost use Rattle.root_views.specs.Seen.{content};
 ghost use Rattle.root_views.specs.Sections.{root_section};
 ghost use Rattle.root_views.specs.declared.kinds.RootKind.TheVariants.{Mail};
 ghost use Rattle.message_shapes.specs.Messages.{mail_roots};
-ghost use Rattle.message_shapes.specs.Inner.Hearing.{IsReady, Tells, TellsBetween, TellsSection};
+ghost use Rattle.message_shapes.specs.Inner.Hearing.{IsReady, Tells, TellsSection};
 ghost use Rattle.message_shapes.specs.Inner.Telling.{content_origin, element_origin, plain_shape, roots_told, AreCells, OfText};
 
 use crate::heard::Heard;
@@ -108,27 +108,6 @@ impl EachRoot for MailSink<'_> {
     }
 }
 
-// Hears the roots between two offsets of the open file.
-fn hear_between<D: Dumps>(
-    dumps: &mut D,
-    from: u64,
-    upto: u64,
-    buffer: &mut Vec<u8>,
-    sink: &mut MailSink<'_>,
-) -> Result<(), RootsFault>
-    requires open { IsOpen (D.state dumps.old).now }
-    requires within { upto ≤ size_of (D.state dumps.old).now }
-    requires ordered { from ≤ upto }
-    requires ready { IsReady sink.old }
-    ensures reads { ReadsAtMost (D.state dumps.old) (D.state dumps.new) (upto - from) }
-    ensures fault { IfErr result (IsRootsCauseOf (D.state dumps.old) (D.state dumps.new)) }
-    ensures ready { OnOk result (IsReady sink.new) }
-    ensures tells { OnOk result (TellsBetween (D.state dumps.old).now from upto sink.old sink.new) }
-{
-    hear_roots(dumps, from, upto, RootKind::Mail, buffer, sink)?;
-    Ok(())
-}
-
 // Hears the roots in the section at `place`. A missing section has none.
 fn hear_section<D: Dumps>(
     dumps: &mut D,
@@ -138,7 +117,7 @@ fn hear_section<D: Dumps>(
     sink: &mut MailSink<'_>,
 ) -> Result<(), RootsFault>
     requires over { IsBuiltOver (D.state dumps.old).now index.now }
-    requires place { IfSome place (λ i. i < length index.now.headers) }
+    requires place { IsPlaceIn index.now place }
     requires ready { IsReady sink.old }
     ensures reads { ReadsAtMost (D.state dumps.old) (D.state dumps.new)
         (body_size (section_in index.now place)) }
@@ -147,13 +126,9 @@ fn hear_section<D: Dumps>(
     ensures tells { OnOk result (TellsSection (D.state dumps.old).now
         (section_in index.now place) sink.old sink.new) }
 {
-    match place {
-        Some(i) => {
-            let section = index.section(i);
-            hear_between(dumps, section.body, section.end, buffer, sink)
-        }
-        None => hear_between(dumps, 0, 0, buffer, sink),
-    }
+    let (from, upto) = index.body_at(place);
+    hear_roots(dumps, from, upto, RootKind::Mail, buffer, sink)?;
+    Ok(())
 }
 
 /// Reads the mailbox of a process once and in pieces, and returns its messages, given the skeleton of the heap.

@@ -1,9 +1,9 @@
 // Which tuples are looked into.
-ghost use Rattle.std.specs.Prelude.{◌≡◌, ℕ, ◌<◌, ◌++◌, All, Contains, length, min, take, flat_map, IfOk, IfSome, OnOk};
+ghost use Rattle.std.specs.Prelude.{◌≡◌, ℕ, ◌<◌, ◌++◌, All, Contains, length, take, flat_map, IfOk, IfSome, OnOk};
 ghost use Rattle.std.specs.List.Sorted.{IsStrictlyIncreasing};
 ghost use Rattle.cell_graphs.specs.Graphs.{places_at, LeadsWithin};
-ghost use Rattle.message_shapes.specs.Inner.Telling.{origin_cells, AreCells, told_cells};
-ghost use Rattle.message_shapes.specs.Inner.Tuples.{is_tuple, lead_tuple, needed, needed_at, tuple_or_none};
+ghost use Rattle.message_shapes.specs.Inner.Telling.{AreCells, told_cells};
+ghost use Rattle.message_shapes.specs.Inner.Tuples.{is_tuple, lead_tuple, needed, needed_at};
 
 use crate::cell_set::CellSet;
 use crate::heard::{Heard, Source};
@@ -11,9 +11,7 @@ use cell_graphs::CellGraph;
 use cell_parts::Kinded;
 use heap_skeleton::{Kind, Skeleton};
 use std::alloc::{AllocError, Global};
-
-// How many elements of a tuple are shown.
-const SHOWN: usize = 8;
+use tuple_fronts::MOST_ELEMENTS;
 
 // Whether a cell is a tuple.
 pub(crate) fn is_tuple(skeleton: &Skeleton, cell: u32) -> bool
@@ -36,13 +34,6 @@ fn add_lead(skeleton: &Skeleton, cells: &mut Vec<u32>, lead: Option<u32>) -> Res
     Ok(())
 }
 
-// How many elements are shown of so many.
-fn shown_of(all: usize) -> usize
-    ensures { result ≡ min all 8 }
-{
-    if all < SHOWN { all } else { SHOWN }
-}
-
 // Appends the tuples among those to which the first places of a cell lead.
 fn add_leads(skeleton: &Skeleton, cells: &mut Vec<u32>, cell: u32) -> Result<(), AllocError>
     requires cell { cell < length skeleton.now.leads }
@@ -50,7 +41,7 @@ fn add_leads(skeleton: &Skeleton, cells: &mut Vec<u32>, cell: u32) -> Result<(),
     ensures { OnOk result (cells.new.items ≡ cells.old.items
         ++ flat_map (lead_tuple skeleton.now) (take 8 (places_at skeleton.now.leads cell))) }
 {
-    for place in 0..shown_of(skeleton.places(cell)) {
+    for place in 0..skeleton.places(cell).min(MOST_ELEMENTS) {
         add_lead(skeleton, cells, skeleton.lead(cell, place))?;
     }
     Ok(())

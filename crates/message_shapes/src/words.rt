@@ -10,9 +10,7 @@ use dump_io::{MemSink, put_atom};
 use heap_skeleton::Kind;
 use std::alloc::{AllocError, Global};
 use term_forms::shapes::Elem;
-
-// How many elements of a tuple are shown.
-const SHOWN: usize = 8;
+use tuple_fronts::MOST_ELEMENTS;
 
 // Appends the text of an atom.
 fn push_atom(alloc: Global, text: &mut Vec<u8>, name: &[u8]) -> Result<(), AllocError>
@@ -80,7 +78,7 @@ pub(crate) fn push_comma(text: &mut Vec<u8>, before: usize) -> Result<(), AllocE
 pub(crate) fn push_end(text: &mut Vec<u8>, shown: usize, all: usize) -> Result<(), AllocError>
     ensures { OnOk result (text.new.items ≡ text.old.items ++ end_text shown all) }
 {
-    if all > SHOWN {
+    if all > MOST_ELEMENTS {
         push_comma(text, shown)?;
         text.extend_from_slice(b"...")?;
     }

@@ -1,6 +1,6 @@
 -- The fronts of the cells of two sections.
 use Rattle.std.proofs.Common.{◌≡◌, ℕ, zero, suc, ◌+◌, ◌-◌, ◌<◌, ◌≤◌, ◌==◌, true, false, if◌then◌else◌, List, [], ◌∷◌, ◌++◌, length, take, drop, map, get_or, Option, None, Some, refl, sym, ◌∙◌, ap, ap₂, subst, append_assoc, append-nil, arith, length-append}
-use Rattle.std.specs.Prelude.{All, nat_lt, slice_get, slice_index_or}
+use Rattle.std.specs.Prelude.{All, nat_lt, slice_index_or}
 use Rattle.std.specs.List.{cons_option, list_any}
 use Rattle.std.specs.List.Sorted.{IsStrictlyIncreasing, IsStrictlySortedBy}
 use Rattle.std.specs.Option.{option_and_then, option_map}

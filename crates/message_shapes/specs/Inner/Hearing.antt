@@ -1,11 +1,8 @@
 -- Hearing the messages of a mailbox.
-use Rattle.std.specs.Prelude.{◌≡◌, ℕ, List, ◌++◌, length, Option}
-use Rattle.std.specs.List.{between}
+use Rattle.std.specs.Prelude.{◌≡◌, List, ◌++◌, length, Option}
 use Rattle.dump_io.specs.Dumps.{Now, IfTold}
 use Rattle.dump_sections.specs.Sections.{Section}
-use Rattle.root_lines.specs.Placed.{placed_roots}
 use Rattle.root_views.specs.Roots.{BodyRoot}
-use Rattle.root_views.specs.declared.kinds.RootKind.TheVariants.{Mail}
 use Rattle.message_shapes.specs.Messages.{roots_in_mail}
 use Rattle.message_shapes.specs.Inner.Telling.{roots_told, AreCells}
 use Rattle.message_shapes.specs.declared.hearing.MailSink.{MailSink}
@@ -18,12 +15,6 @@ IsReady sink = AreCells (length sink.skeleton.now.leads) sink.heard
 pub record Tells (old new : MailSink) (roots : List BodyRoot) : Type 0 where
   pub skeleton : new.skeleton ≡ old.skeleton
   pub heard : new.heard ≡ old.heard ++ roots_told old.skeleton.now.addresses roots
-
--- so did those among the roots between two offsets of what is open
-pub record TellsBetween (now : Now) (from upto : ℕ) (old new : MailSink) : Type 0 where
-  pub skeleton : new.skeleton ≡ old.skeleton
-  pub heard : IfTold now (λ dump.
-      new.heard ≡ old.heard ++ roots_told old.skeleton.now.addresses (placed_roots Mail from (between from upto dump)))
 
 -- so did those among the roots in a section of what is open
 pub record TellsSection (now : Now) (found : Option Section) (old new : MailSink) : Type 0 where
