@@ -168,6 +168,14 @@ impl Skeleton {
         self.parts.len() as u32
     }
 
+    /// States laws and does no work: there are as many addresses as cells, and what a cell leads to is a cell.
+    pub fn leads_are_cells(&self)
+        ensures count { length self.now.leads ≡ length self.now.addresses }
+        ensures within { LeadsWithin self.now.leads }
+    {
+        let _ = &self.parts;
+    }
+
     /// The number of the cell with an address. Returns `None` exactly when there is none.
     pub fn find(&self, address: u64) -> Option<u32>
         ensures value { result ≡ position (λ a. a == address) self.now.addresses }

@@ -67,8 +67,7 @@ fn shape_messages<D: Dumps>(
     ensures messages { IfOk result (λ messages. IfTold (D.state dumps.old).now (λ dump.
         messages ≡ messages_of (mail_cells dump index.now pid.now) (mail_roots dump index.now pid.now))) }
 {
-    // What a cell of a skeleton leads to is one too.
-    let _count = skeleton.cells();
+    skeleton.leads_are_cells();
     let cells = subject_cells(alloc, &heard)?;
     let needed = needed_cells(alloc, skeleton, &cells)?;
     let tuples = Tuples::load(alloc, dumps, index, pid, skeleton, needed)?;

@@ -59,8 +59,7 @@ impl Tuples {
         ensures fronts { IfOk result (λ tuples. IfTold (D.state dumps.old).now
             (λ dump. tuples.fronts ≡ fronts_for dump index.now pid.now cells)) }
     {
-        // A skeleton has as many addresses as cells that lead somewhere.
-        let _count = skeleton.cells();
+        skeleton.leads_are_cells();
         let fronts = TupleFronts::load(alloc, dumps, index, pid, skeleton, cells.numbers())?;
         Ok(Tuples { cells, fronts })
     }

@@ -25,8 +25,6 @@ fn next_of<'a>(elements: &mut Joined<'a>) -> Option<PlacedElem<'a>>
     ensures none { IfNone result (IfSome elements.old.elements (λ es. es ≡ [])) }
 {
     if elements.left() == 0 {
-        // Whether the text ends here or not, it has no further element.
-        let _ends = elements.is_over();
         return None;
     }
     elements.next_elem()
