@@ -5,6 +5,7 @@ use Rattle.std.specs.List.{between, enumerate_from, flat_map}
 use Rattle.std.proofs.lemmas.List.{map_push, length-map, length-take, length-drop, take_more}
 use Rattle.std.proofs.lemmas.List.Concat.{flat_map-append}
 use Rattle.std.proofs.lemmas.List.Elements.{All-push, filter-append}
+use Rattle.dump_io.specs.Laws.Lists.{enumerate-push}
 use Rattle.dump_sections.specs.Bodies.{section_at}
 use Rattle.dump_sections.specs.Index.{Contents}
 use Rattle.heap_cells.specs.Loading.{enc_of}
@@ -18,12 +19,6 @@ use Rattle.binary_holders.specs.Inner.Places.{numbers_at, references_at}
 use Rattle.binary_holders.specs.Inner.Counting.{counted, HasCounted}
 use Rattle.binary_holders.proofs.Scans.{few-references}
 use Rattle.binary_holders.proofs.CountFacts.{held-is}
-
-enumerate-push : {X : Type 0} (n : ℕ) (xs : List X) (x : X) → enumerate_from n (xs ++ x ∷ []) ≡ enumerate_from n xs ++ (n + length xs, x) ∷ []
-enumerate-push n [] x = let here : n ≡ n + 0 = omega arith in ap (λ m. (m, x) ∷ []) here
-enumerate-push n (y ∷ xs) x =
-    let there : n + 1 + length xs ≡ n + length (y ∷ xs) = omega arith in
-    ap (λ l. (n, y) ∷ l) (enumerate-push (n + 1) xs x ∙ ap (λ m. enumerate_from (n + 1) xs ++ (m, x) ∷ []) there)
 
 abbrev has_some : Holding → Bool
 has_some holding = nat_lt 0 holding.count

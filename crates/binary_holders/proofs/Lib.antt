@@ -1,5 +1,4 @@
 mod Examples
-mod HeapFacts
 mod HoldingFacts
 mod LineFacts
 mod MarkFacts

@@ -2,7 +2,6 @@
 -- are distinguished, and how what it refers to is counted.
 pub mod Finding
 pub mod HeapSinks
-pub mod Heaps
 pub mod Lines
 pub mod Places
 pub mod Rows

@@ -2,10 +2,11 @@
 ghost use Rattle.std.specs.Prelude.{◌≡◌, ℕ, List, [], ◌∷◌, ◌++◌, ◌+◌, ◌^◌, ◌<◌, ◌≤◌, length, map, All, nat_lt, OnOk, IfOk, IfErr, if◌then◌else◌};
 ghost use Rattle.std.specs.List.{flat_map, sum_by};
 ghost use Rattle.dump_io.specs.Dumps.{DeviceFailed, IfTold, ReadsAtMost};
+ghost use Rattle.dump_sections.specs.Bodies.{IsPlaceIn};
 ghost use Rattle.dump_sections.specs.Index.{IsBuiltOver};
 ghost use Rattle.binary_holders.specs.Held.{holdings, whole_lines};
 ghost use Rattle.binary_holders.specs.Usage.{IsHolderCauseOf, NamesProcess};
-ghost use Rattle.binary_holders.specs.Inner.Places.{IsWithin, numbers_at, references_at, size_at};
+ghost use Rattle.binary_holders.specs.Inner.Places.{numbers_at, references_at, size_at};
 ghost use Rattle.binary_holders.specs.declared.texts.Reference.{Reference};
 ghost use Rattle.binary_holders.specs.Inner.Counting.{HasCounted, HasRoom, Adds, counted};
 ghost use Rattle.binary_holders.specs.declared.heap_sink.TheConstants.{KEPT};
@@ -31,7 +32,7 @@ fn count_section<D: Dumps>(
     sink: &mut HeapSink<'_>,
 ) -> Result<(), HolderFault>
     requires over { IsBuiltOver (D.state dumps.old).now index.now }
-    requires within { IsWithin index.now place }
+    requires within { IsPlaceIn index.now place }
     requires buffer { KEPT < length buffer.old }
     requires enc { sink.old.enc ≡ enc_of index.now.version }
     requires room { IsReady sink.old }
@@ -43,11 +44,8 @@ fn count_section<D: Dumps>(
         (λ dump. Adds sink.old.targets.now sink.old.counts sink.new.counts
         (references_at dump index.now place))) }
 {
-    let Some(i) = place else {
-        return Ok(());
-    };
-    let section = index.section(i);
-    match count_heap(dumps, section.body, section.end, buffer, sink) {
+    let (from, upto) = index.body_at(place);
+    match count_heap(dumps, from, upto, buffer, sink) {
         Ok(()) => Ok(()),
         Err(_) => Err(HolderFault::Read),
     }
@@ -77,7 +75,7 @@ fn count_process<D: Dumps>(
     held: &mut Vec<Holding>,
 ) -> Result<(), HolderFault>
     requires over { IsBuiltOver (D.state dumps.old).now index.now }
-    requires within { IsWithin index.now place }
+    requires within { IsPlaceIn index.now place }
     requires buffer { KEPT < length buffer.old }
     requires enc { sink.old.enc ≡ enc_of index.now.version }
     requires room { IsReady sink.old }
@@ -123,7 +121,7 @@ pub(crate) fn count_all<D: Dumps>(
     sink: &mut HeapSink<'_>,
 ) -> Result<Vec<Holding>, HolderFault>
     requires over { IsBuiltOver (D.state dumps.old).now index.now }
-    requires within { All (IsWithin index.now) heaps.now }
+    requires within { All (IsPlaceIn index.now) heaps.now }
     requires few { length heaps.now ≤ usual.sections }
     requires buffer { KEPT < length buffer.old }
     requires first { sink.old.counts.turn ≡ 1 }

@@ -1,5 +1,5 @@
 -- Where binaries and heaps stand.
-use Rattle.std.specs.Prelude.{◌≡◌, ◌≢◌, ℕ, ◌<◌, ◌^◌, List, length, map, position, slice_index, Option, None, Some, IfSome, codes}
+use Rattle.std.specs.Prelude.{◌≡◌, ◌≢◌, ℕ, ◌<◌, ◌^◌, List, length, map, position, slice_index, Option, None, Some, codes}
 use Rattle.std.specs.BTreeMap.{BTreeMap, get}
 use Rattle.std.specs.List.{sum_by}
 use Rattle.std.specs.Ordering.{nat_cmp}
@@ -35,10 +35,6 @@ pub record AreTargets (tree : BTreeMap ℕ ℕ) (binaries : List Binary) (sum : 
 -- the place of the heap of a pid: the first of the sections with heaps that has the pid
 abbrev pub heap_place : List Section → List ℕ → Option ℕ
 heap_place sections pid = position (λ section. is_named (codes "proc_heap") (Some pid) section.text) sections
-
--- a place is that of a section of the index
-abbrev pub IsWithin : Contents → Option ℕ → Type 0
-IsWithin index place = IfSome place (λ i. i < length index.headers)
 
 -- what the heap at a place refers to, from the bytes of a dump; a process without a heap refers to nothing
 abbrev pub references_at : List ℕ → Contents → Option ℕ → List Reference

@@ -1,14 +1,12 @@
-use Rattle.std.proofs.Common.{take}
-use Rattle.std.specs.Prelude.{All}
+use Rattle.std.proofs.Common.{◌≡◌, map, take, All}
+use Rattle.dump_sections.specs.Bodies.{IsPlaceIn}
 use Rattle.dump_sections.specs.Index.{sections_in}
-use Rattle.binary_holders.specs.Inner.Heaps.{AreApart, AreHeaps}
-use Rattle.binary_holders.specs.Inner.Places.{IsWithin}
+use Rattle.binary_holders.specs.Inner.Places.{heap_place}
 use Rattle.binary_holders.proofs.heap_places.heap_places.Given as goal
 
--- the heaps among the sections before `i` are found
-abbrev pub invariant-loop-i : goal.invariant-loop-i
-invariant-loop-i l = record {
-  apart : AreApart l.procs.processes;
-  within : All (IsWithin l.index) l.heaps.items;
-  found : AreHeaps l.procs.processes (take l.i (sections_in l.index)) l.heaps.items;
+-- the places of the heaps of the processes so far
+abbrev pub invariant-loop-process : goal.invariant-loop-process
+invariant-loop-process l = record {
+  places : l.heaps.items ≡ map (λ process. heap_place (sections_in l.index) process.pid) (take l.process l.procs.processes);
+  within : All (IsPlaceIn l.index) l.heaps.items;
 }
