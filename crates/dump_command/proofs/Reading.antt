@@ -28,7 +28,6 @@ use Rattle.dump_command.specs.Inner.Reading.{IsIndexed, HasRead, IsHalted, Reads
 use Rattle.dump_command.specs.Inner.Stops.{or_stop, stop_of_body, Judges}
 use Rattle.dump_command.specs.declared.stop.Stop.{Stop}
 use Rattle.dump_command.specs.declared.stop.Stop.TheVariants.{Refused, NotRead, NotWritten, NoMemory}
-
 use Rattle.dump_command.specs.Inner.Loads.{IsBodyFound, seen_overview, shown_body}
 use Rattle.dump_command.specs.declared.commands.subjects.Body.{Body}
 

@@ -12,7 +12,6 @@ use Rattle.term_text.specs.Roots.{answer_over, some_roots_report}
 use Rattle.term_unfold.specs.Walks.{Walk}
 use Rattle.command_words.specs.Command.{peek_roots}
 use Rattle.dump_command.specs.Meaning.{meaning, part_in}
-
 use Rattle.dump_command.specs.Inner.Loads.{walk_in}
 use Rattle.dump_command.proofs.HeapLoads.{roots-found}
 use Rattle.dump_command.proofs.PartLoads.{peeked-told, size-one, HasRead-behind, IsHalted-behind, IsHalted-first, StopsFor-roots}
