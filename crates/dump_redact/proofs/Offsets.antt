@@ -10,7 +10,7 @@ use Rattle.std.proofs.lemmas.List.Edits.{length-between}
 use Rattle.dump_sections.specs.Bodies.{body_length, section_at}
 use Rattle.dump_sections.specs.Index.{index_of, Contents, sections_in, AreBounded, IsIndexOf, IsBuiltOver}
 use Rattle.dump_sections.specs.Sections.{Section, section, sections, sections_of, next_at, tag_of}
-use Rattle.dump_io.specs.Dumps.{Now, told, size_of, Gives, closed, sized, IsOpen}
+use Rattle.dump_io.specs.Dumps.{Now, told, size_of, Gives}
 use borrow.Rule.Slice.PartMut.{put_mid}
 use Rattle.dump_io.specs.Lines.{Header, headers}
 use Rattle.dump_sections.specs.Tiling.{Tile}

@@ -4,6 +4,7 @@ use Rattle.std.specs.List.{concat}
 use Rattle.std.proofs.lemmas.Option.{some_pair_parts}
 use Rattle.std.proofs.lemmas.Bool.{cond-false}
 use Rattle.binary_payloads.specs.declared.enc.Enc.{Enc}
+use Rattle.binary_payloads.specs.Payload.{IsPayloadOf}
 use Rattle.term_forms.specs.Words.{colon, led_of, IsLed}
 use Rattle.term_forms.specs.Forms.{HeapForm, Cons, Tuple, Float, Long, Pid, Port, Ext, HeapBin, RefBin, SubBin, Flat, Hash, Node, IsForm}
 use Rattle.term_forms.specs.ReadingForms.{form_of}
@@ -34,6 +35,11 @@ pub record IsPlaced (enc : Enc) (part : Part) (text chars : List ℕ) : Type 0 w
 
 -- ---- a form that is a binary on the heap
 
+-- a list or none
+known : (o : Option (List ℕ)) → (o ≡ None) ⊎ ((chars : List ℕ) × (o ≡ Some chars))
+known None = inl refl
+known (Some chars) = inr (chars, refl)
+
 bin-sound : (o : Option HeapForm) (chars : List ℕ) → bin_chars o ≡ Some chars → (size : ℕ) × (o ≡ Some (HeapBin size chars))
 bin-sound None chars h = cc
 bin-sound (Some (Cons head tail)) chars h = cc
@@ -50,6 +56,31 @@ bin-sound (Some (Flat keys values)) chars h = cc
 bin-sound (Some (Hash size children)) chars h = cc
 bin-sound (Some (Node children)) chars h = cc
 
+-- a text that spells one has the characters of its payload
+pub bin-chars : (enc : Enc) → FormIsRead enc → (spelled chars : List ℕ) (size : ℕ) → IsForm enc spelled (HeapBin size chars)
+    → Some chars ≡ bin_chars (form_of enc spelled)
+bin-chars enc forms spelled chars size form = sym (ap bin_chars ((forms spelled (HeapBin size chars)).1 form))
+
+-- a text in which no payload follows the two letters and a number spells none
+pub no-bin-chars : (enc : Enc) → FormIsRead enc → (spelled led : List ℕ) → spelled ≡ codes "Yh" ++ led
+    → ((size : ℕ) (chars : List ℕ) → IsLed led size chars → IsPayloadOf enc chars size → ⊥) → None ≡ bin_chars (form_of enc spelled)
+no-bin-chars enc forms spelled led begins none = by (known (bin_chars (form_of enc spelled)))
+  where
+    by : (bin_chars (form_of enc spelled) ≡ None) ⊎ ((chars : List ℕ) × (bin_chars (form_of enc spelled) ≡ Some chars)) → None ≡ bin_chars (form_of enc spelled)
+    by (inl is) = sym is
+    by (inr (chars, is)) =
+        let bin = bin-sound (form_of enc spelled) chars is in
+        let form = (forms spelled (HeapBin bin.0 chars)).0 bin.1 in
+        let same : form.0 ≡ led = ap (drop 2) (sym form.1 ∙ begins) in
+        absurd (none bin.0 chars (subst (λ l. IsLed l bin.0 chars) same form.2) form.3)
+
+-- a number and its payload are the only ones
+pub only-payload : LedIsRead → (enc : Enc) (led chars : List ℕ) (size : ℕ) → IsLed led size chars → (IsPayloadOf enc chars size → ⊥)
+    → (other : ℕ) (others : List ℕ) → IsLed led other others → IsPayloadOf enc others other → ⊥
+only-payload law enc led chars size is none other others is-other payload =
+    let parts = some_pair_parts other size others chars (sym ((law led other others).1 is-other) ∙ (law led size chars).1 is) in
+    none (subst (λ l. IsPayloadOf enc l size) parts.1 (subst (λ n. IsPayloadOf enc others n) parts.0 payload))
+
 -- the text of such a form begins with its two letters
 bin-marked : (enc : Enc) → FormIsRead enc → (spelled chars : List ℕ) → bin_chars (form_of enc spelled) ≡ Some chars
     → (led : List ℕ) × (spelled ≡ codes "Yh" ++ led)
@@ -57,11 +88,6 @@ bin-marked enc forms spelled chars is =
     let bin = bin-sound (form_of enc spelled) chars is in
     let form = (forms spelled (HeapBin bin.0 chars)).0 bin.1 in
     (form.0, form.1)
-
--- a list or none
-known : (o : Option (List ℕ)) → (o ≡ None) ⊎ ((chars : List ℕ) × (o ≡ Some chars))
-known None = inl refl
-known (Some chars) = inr (chars, refl)
 
 -- the text of a line with a payload has those letters behind a colon
 marked-by : LedIsRead → (enc : Enc) → FormIsRead enc → (text chars : List ℕ) (o : Option (ℕ × List ℕ)) → led_of text ≡ o

@@ -1,37 +1,47 @@
 // Redacting the body of a heap in place.
 ghost use Rattle.std.specs.Prelude.{◌≡◌, ◌+◌, ◌<◌, ◌≤◌, ◌++◌, false, length, take, drop, IfSome};
+ghost use Rattle.std.specs.Option.{option_copied};
 ghost use Rattle.dump_io.specs.Lines.{IsEnded};
+ghost use Rattle.term_forms.specs.ReadingForms.{form_of};
 ghost use Rattle.dump_redact.specs.Bodies.{redacted_body};
-ghost use Rattle.dump_redact.specs.Redacted.{blanked_line};
+ghost use Rattle.dump_redact.specs.Redacted.{bin_chars, blanked_line};
 ghost use Rattle.dump_redact.specs.Inner.Places.{payload_place, AreMarksFrom};
 
 use crate::blanks::blank_all;
 use crate::parts::Part;
+use binary_payloads::is_payload;
 use dump_io::{line_len, line_text};
 use memchr::{memchr, memrchr};
-use term_forms::reading::form;
-use term_forms::shapes::Form;
 use term_forms::{Enc, form_is_read, heap_line, number_is_read};
 
 // How many bytes behind a letter count as near.
 const NEAR: usize = 16;
 
-// Where the payload begins in a line, if it is a heap line with one. The first two
-// characters of a form tell whether it has a payload; a form without one isn't read.
+// The characters of its payload, if the text spells a heap binary. The first
+// two letters tell whether it may, so that no other form is read.
+fn binary_chars(spelled: &[u8], enc: Enc) -> Option<&[u8]>
+    ensures { option_copied result ≡ bin_chars (form_of enc spelled.now) }
+{
+    form_is_read(enc);
+    number_is_read();
+    let led = spelled.strip_prefix(b"Yh")?;
+    let (size, chars) = heap_line(led)?;
+    if is_payload(chars, enc, size) {
+        Some(chars)
+    } else {
+        None
+    }
+}
+
+// Where the payload begins in a line, if it is a heap line with one.
 fn payload_at(raw: &[u8], enc: Enc) -> Option<usize>
     ensures place { result ≡ payload_place enc raw.now }
     ensures within { IfSome result (λ at. at ≤ length raw.now) }
 {
-    form_is_read(enc);
     let text = line_text(raw);
     let (_, spelled) = heap_line(text)?;
-    if !spelled.starts_with(b"Yh") {
-        return None;
-    }
-    match form(spelled, enc)? {
-        Form::HeapBin(_, chars) => Some(text.len().saturating_sub(chars.len())),
-        _ => None,
-    }
+    let chars = binary_chars(spelled, enc)?;
+    Some(text.len().saturating_sub(chars.len()))
 }
 
 fn redact_line(raw: &mut [u8], enc: Enc)
@@ -97,7 +107,7 @@ fn mark_at(bytes: &[u8]) -> usize
     ensures within { result ≤ length bytes.now }
     ensures marks { AreMarksFrom result bytes.now }
 {
-    let mut place = letter_from(bytes, 0);
+    let mut place = near_letter_from(bytes, 0);
     while place < bytes.len() && !is_mark(bytes, place) {
         place = near_letter_from(bytes, place + 1);
     }

@@ -1,5 +1,5 @@
 // Gathering lines depth first.
-ghost use Rattle.std.specs.Prelude.{◌≡◌, ◌<◌, ◌≤◌, [], length, OnOk, IfErr};
+ghost use Rattle.std.specs.Prelude.{◌≡◌, ◌<◌, [], length, OnOk, IfErr};
 ghost use Rattle.heap_parts.specs.Inner.Growing.{Grows};
 ghost use Rattle.heap_parts.specs.Firsts.{MayGrow, IsPartCause, ReadsLines};
 

@@ -1,10 +1,8 @@
 // The lines of a heap that isn't loaded.
-ghost use Rattle.std.specs.Prelude.{◌≡◌, ℕ, Bool, List, ◌++◌, ◌+◌, ◌-◌, ◌*◌, ◌<◌, ◌≤◌, length, OnOk, IfErr};
-ghost use Rattle.std.specs.Option.{option_to_list};
+ghost use Rattle.std.specs.Prelude.{◌≡◌, List, ◌-◌, ◌*◌, ◌<◌, length, OnOk, IfErr};
 ghost use Rattle.dump_io.specs.Dumps.{Now, ReadsAtMost};
 ghost use Rattle.binary_payloads.specs.declared.enc.Enc.{Enc};
-ghost use Rattle.heap_cells.specs.Cells.{Cell, first_cells, line_cells};
-ghost use Rattle.term_unfold.specs.Parts.{has_cell};
+ghost use Rattle.heap_cells.specs.Cells.{Cell};
 ghost use Rattle.heap_parts.specs.Firsts.{MayGrow, IsLawful, IsPushed, IsPartCause, ReadsLines};
 
 use crate::faults::PartFault;

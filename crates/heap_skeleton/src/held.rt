@@ -1,5 +1,5 @@
 // What is held of heap lines while a heap is loaded.
-ghost use Rattle.std.specs.Prelude.{◌≡◌, ◌≤◌, ◌+◌, ◌<◌, ◌^◌, ◌++◌, ◌∷◌, [], length, OnOk};
+ghost use Rattle.std.specs.Prelude.{◌≡◌, ◌+◌, ◌<◌, ◌++◌, ◌∷◌, [], OnOk};
 ghost use Rattle.heap_skeleton.specs.Inner.Held.{start_at, IsHeld, IsSmall};
 
 use crate::forms::Read;

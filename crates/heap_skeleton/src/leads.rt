@@ -1,5 +1,5 @@
 // Where the elements of cells lead while not all cells are known.
-ghost use Rattle.std.specs.Prelude.{◌≡◌, ◌∷◌, [], length, take, OnOk};
+ghost use Rattle.std.specs.Prelude.{◌≡◌, ◌∷◌, [], take, OnOk};
 ghost use Rattle.heap_skeleton.specs.Inner.Leads.{mark, Pushes};
 
 use std::alloc::{AllocError, Global};

@@ -1,6 +1,5 @@
 // The shapes of cells.
 ghost use Rattle.std.specs.Prelude.{◌≡◌, ◌<◌, ◌++◌, All, length, map, IfOk, OnOk};
-ghost use Rattle.term_forms.specs.Elements.{Element};
 ghost use Rattle.term_forms.specs.Seen.{element};
 ghost use Rattle.message_shapes.specs.Shapes.{comma_list, tag_texts};
 ghost use Rattle.message_shapes.specs.Inner.CellTexts.{element_text, element_texts, inner_text, size_of, subject_text, tag_at, tuple_with};

@@ -1,8 +1,6 @@
 // Messages with their shapes.
 ghost use Rattle.std.specs.Prelude.{◌≡◌, ◌<◌, length};
 ghost use Rattle.message_shapes.specs.Messages.{message_at};
-ghost use Rattle.message_shapes.specs.Inner.Telling.{shown_source};
-ghost use Rattle.message_shapes.specs.Inner.Shaped.{shape_with};
 
 use crate::cell_set::CellSet;
 use crate::heard::{Heard, Source};

@@ -1,6 +1,5 @@
 // Processes, and where each of them stands.
-ghost use Rattle.std.specs.Prelude.{◌≡◌, ◌<◌, length};
-ghost use Rattle.text_groups.specs.Groups.{item_at};
+ghost use Rattle.std.specs.Prelude.{◌≡◌, ◌<◌};
 
 use std::marker::Model;
 use text_groups::Grouped;

@@ -1,5 +1,5 @@
 // Hearing the roots of a body one by one.
-ghost use Rattle.std.specs.Prelude.{◌≡◌, ◌+◌, ◌-◌, ◌<◌, ◌≤◌, ◌^◌, [], ◌∷◌, List, length, OnOk, IfErr};
+ghost use Rattle.std.specs.Prelude.{◌+◌, ◌-◌, ◌<◌, ◌≤◌, ◌^◌, [], ◌∷◌, List, length, OnOk, IfErr};
 ghost use Rattle.dump_io.specs.Dumps.{size_of, IsOpen, ReadsAtMost};
 ghost use Rattle.body_lines.specs.Hearing.{Hears, HearsBody};
 ghost use Rattle.root_views.specs.Roots.{BodyRoot};

@@ -1,5 +1,4 @@
 // What hears the lines of a body for its roots.
-ghost use Rattle.std.specs.Prelude.{◌≡◌};
 ghost use Rattle.root_lines.specs.Inner.Hearing.{IsReady, TakesLines};
 
 use crate::hearing::hear_run;
