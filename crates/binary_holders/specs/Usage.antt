@@ -1,15 +1,11 @@
 -- The binaries of a dump and their holders.
-use Rattle.std.specs.Prelude.{ℕ, ◌*◌, ◌<◌, List, [], ◌∷◌, None, map, nat_lt, codes}
+use Rattle.std.specs.Prelude.{ℕ, ◌*◌, ◌<◌, List, [], ◌∷◌, map, nat_lt, codes}
 use Rattle.std.specs.List.{count_by, flat_map, sum_by}
-use Rattle.dump_io.specs.Dumps.{DeviceState}
-use Rattle.dump_io.specs.Faults.{Cause, fails, lacks, IsCauseOf}
 use Rattle.dump_sections.specs.Bodies.{body_size}
 use Rattle.dump_sections.specs.Index.{Contents, sections_in}
 use Rattle.dump_sections.specs.Lookups.{has_tag}
 use Rattle.heap_cells.specs.Loading.{heap_section}
 use Rattle.process_table.specs.Processes.{Process}
-use Rattle.binary_holders.specs.declared.faults.HolderFault.{HolderFault}
-use Rattle.binary_holders.specs.declared.faults.HolderFault.TheVariants.{Read, Memory}
 use Rattle.binary_holders.specs.declared.rows.BinaryRow.{BinaryRow}
 use Rattle.binary_holders.specs.declared.rows.Holding.{Holding}
 use Rattle.binary_holders.specs.declared.rows.WholeLines.{WholeLines}
@@ -104,12 +100,3 @@ heaps_length index pids = sum_by (λ pid. body_size (heap_section pid (sections_
 -- how many bytes may be read of the `binary` sections: 17 of each, which are a number of 16 digits and its `:`
 abbrev pub fronts_length : Contents → ℕ
 fronts_length index = 17 * count_by (λ section. has_tag (codes "binary") section.text) (sections_in index)
-
--- what such a fault says: nothing is refused
-abbrev pub holder_cause : HolderFault → Cause ⊥
-holder_cause Read = fails
-holder_cause Memory = lacks
-
--- why holders aren't found: the device failed; memory may be lacking at any time
-abbrev pub IsHolderCauseOf : DeviceState → DeviceState → HolderFault → Type 0
-IsHolderCauseOf before after fault = IsCauseOf None before after (holder_cause fault)

@@ -2,10 +2,11 @@
 ghost use Rattle.std.specs.Prelude.{◌≡◌, ℕ, List, [], ◌∷◌, ◌++◌, ◌+◌, ◌^◌, ◌<◌, ◌≤◌, length, map, All, nat_lt, OnOk, IfOk, IfErr, if◌then◌else◌};
 ghost use Rattle.std.specs.List.{flat_map, sum_by};
 ghost use Rattle.dump_io.specs.Dumps.{DeviceFailed, IfTold, ReadsAtMost};
+ghost use Rattle.dump_io.specs.Faults.{IsReadCauseOf};
 ghost use Rattle.dump_sections.specs.Bodies.{IsPlaceIn};
 ghost use Rattle.dump_sections.specs.Index.{IsBuiltOver};
 ghost use Rattle.binary_holders.specs.Held.{holdings, whole_lines};
-ghost use Rattle.binary_holders.specs.Usage.{IsHolderCauseOf, NamesProcess};
+ghost use Rattle.binary_holders.specs.Usage.{NamesProcess};
 ghost use Rattle.binary_holders.specs.Inner.Places.{numbers_at, references_at, size_at};
 ghost use Rattle.binary_holders.specs.declared.texts.Reference.{Reference};
 ghost use Rattle.binary_holders.specs.Inner.Counting.{HasCounted, HasRoom, Adds, counted};
@@ -15,11 +16,11 @@ ghost use Rattle.heap_cells.specs.Loading.{enc_of};
 ghost use Rattle.dump_io.specs.Limits.{usual};
 
 use crate::counts::Counts;
-use crate::faults::{HolderFault, push_row};
 use crate::heap_sink::HeapSink;
+use crate::pushing::push_row;
 use crate::rows::Holding;
 use crate::scanning::count_heap;
-use dump_io::Dumps;
+use dump_io::{Dumps, ReadFault};
 use dump_sections::Index;
 use std::alloc::Global;
 
@@ -30,7 +31,7 @@ fn count_section<D: Dumps>(
     place: Option<usize>,
     buffer: &mut [u8],
     sink: &mut HeapSink<'_>,
-) -> Result<(), HolderFault>
+) -> Result<(), ReadFault>
     requires over { IsBuiltOver (D.state dumps.old).now index.now }
     requires within { IsPlaceIn index.now place }
     requires buffer { KEPT < length buffer.old }
@@ -38,7 +39,7 @@ fn count_section<D: Dumps>(
     requires room { IsReady sink.old }
     ensures reads { ReadsAtMost (D.state dumps.old) (D.state dumps.new) (size_at index.now place) }
     ensures failed { IfErr result (λ fault.
-        (fault ≡ HolderFault.Read) × DeviceFailed (D.state dumps.old) (D.state dumps.new)) }
+        (fault ≡ ReadFault.Read) × DeviceFailed (D.state dumps.old) (D.state dumps.new)) }
     ensures keeps { OnOk result (KeepsTargets sink.old sink.new) }
     ensures adds { OnOk result (IfTold (D.state dumps.old).now
         (λ dump. Adds sink.old.targets.now sink.old.counts sink.new.counts
@@ -47,16 +48,16 @@ fn count_section<D: Dumps>(
     let (from, upto) = index.body_at(place);
     match count_heap(dumps, from, upto, buffer, sink) {
         Ok(()) => Ok(()),
-        Err(_) => Err(HolderFault::Read),
+        Err(_) => Err(ReadFault::Read),
     }
 }
 
 // Appends what the process at a place holds, if it holds anything.
-fn push_holding(held: &mut Vec<Holding>, process: usize, counts: &Counts) -> Result<(), HolderFault>
+fn push_holding(held: &mut Vec<Holding>, process: usize, counts: &Counts) -> Result<(), ReadFault>
     ensures pushed { OnOk result (held.new.items
         ≡ held.old.items
         ++ (if nat_lt 0 counts.now.count then counted process counts.now ∷ [] else [])) }
-    ensures fault { IfErr result (λ fault. fault ≡ HolderFault.Memory) }
+    ensures fault { IfErr result (λ fault. fault ≡ ReadFault.Memory) }
 {
     if counts.count == 0 {
         return Ok(());
@@ -73,7 +74,7 @@ fn count_process<D: Dumps>(
     buffer: &mut [u8],
     sink: &mut HeapSink<'_>,
     held: &mut Vec<Holding>,
-) -> Result<(), HolderFault>
+) -> Result<(), ReadFault>
     requires over { IsBuiltOver (D.state dumps.old).now index.now }
     requires within { IsPlaceIn index.now place }
     requires buffer { KEPT < length buffer.old }
@@ -81,7 +82,7 @@ fn count_process<D: Dumps>(
     requires room { IsReady sink.old }
     requires turn { sink.old.counts.turn + 1 < 2 ^ 32 }
     ensures reads { ReadsAtMost (D.state dumps.old) (D.state dumps.new) (size_at index.now place) }
-    ensures fault { IfErr result (IsHolderCauseOf (D.state dumps.old) (D.state dumps.new)) }
+    ensures fault { IfErr result (IsReadCauseOf (D.state dumps.old) (D.state dumps.new)) }
     ensures turn { OnOk result (sink.new.counts.turn ≡ sink.old.counts.turn + 1) }
     ensures room { OnOk result (IsReady sink.new) }
     ensures enc { OnOk result (sink.new.enc ≡ sink.old.enc) }
@@ -119,7 +120,7 @@ pub(crate) fn count_all<D: Dumps>(
     heaps: &[Option<usize>],
     buffer: &mut [u8],
     sink: &mut HeapSink<'_>,
-) -> Result<Vec<Holding>, HolderFault>
+) -> Result<Vec<Holding>, ReadFault>
     requires over { IsBuiltOver (D.state dumps.old).now index.now }
     requires within { All (IsPlaceIn index.now) heaps.now }
     requires few { length heaps.now ≤ usual.sections }
@@ -131,7 +132,7 @@ pub(crate) fn count_all<D: Dumps>(
     requires none { sink.old.counts.lines ≡ record { count = 0; unstored = 0 } }
     ensures reads { ReadsAtMost (D.state dumps.old) (D.state dumps.new)
         (sum_by (size_at index.now) heaps.now) }
-    ensures fault { IfErr result (IsHolderCauseOf (D.state dumps.old) (D.state dumps.new)) }
+    ensures fault { IfErr result (IsReadCauseOf (D.state dumps.old) (D.state dumps.new)) }
     ensures room { OnOk result (HasRoom (length sink.old.targets.now) sink.new.counts) }
     ensures held { IfOk result (λ held. IfTold (D.state dumps.old).now
         (λ dump. held.items

@@ -15,12 +15,12 @@
 #![tactic(auto)]
 
 mod counts;
-mod faults;
 mod heap_places;
 mod heap_sink;
 mod hints;
 mod holding;
 mod lines;
+mod pushing;
 mod rows;
 mod scanning;
 mod stored;
@@ -28,6 +28,5 @@ mod targets;
 mod texts;
 mod using;
 
-pub use faults::HolderFault;
 pub use rows::{BinaryRow, Holding, WholeLines};
 pub use using::{BinaryUse, binary_use, holders};

@@ -1,14 +1,15 @@
 // The binaries outside the heaps, from the sections of a dump.
 ghost use Rattle.std.specs.Prelude.{◌≡◌, ◌+◌, ◌*◌, ◌<◌, ◌≤◌, length, map, take, All, IfOk, OnOk, IfErr};
 ghost use Rattle.dump_io.specs.Dumps.{DeviceFailed, IfTold, ReadsAtMost};
+ghost use Rattle.dump_io.specs.Faults.{IsReadCauseOf};
 ghost use Rattle.dump_sections.specs.Index.{IsBuiltOver, sections_in};
-ghost use Rattle.binary_holders.specs.Usage.{sized_binary, IsHolderCauseOf};
+ghost use Rattle.binary_holders.specs.Usage.{sized_binary};
 ghost use Rattle.binary_holders.specs.Inner.Finding.{AreFound, numbers_of, stored_of};
 ghost use Rattle.binary_holders.specs.Inner.Places.{numbers_in};
 
-use crate::faults::{HolderFault, push_row};
+use crate::pushing::push_row;
 use crate::targets::Binary;
-use dump_io::Dumps;
+use dump_io::{Dumps, ReadFault};
 use dump_sections::Index;
 use std::alloc::{AllocError, Global};
 use std::collections::BTreeMap;
@@ -69,18 +70,18 @@ fn read_binary<D: Dumps>(
     dumps: &mut D,
     index: &Index,
     stored: &StoredAt,
-) -> Result<Binary, HolderFault>
+) -> Result<Binary, ReadFault>
     requires over { IsBuiltOver (D.state dumps.old).now index.now }
     requires within { stored.now.section < length index.now.headers }
     ensures reads { ReadsAtMost (D.state dumps.old) (D.state dumps.new) 17 }
     ensures failed { IfErr result (λ fault.
-        (fault ≡ HolderFault.Read) × DeviceFailed (D.state dumps.old) (D.state dumps.new)) }
+        (fault ≡ ReadFault.Read) × DeviceFailed (D.state dumps.old) (D.state dumps.new)) }
     ensures number { IfOk result (λ binary. binary.number ≡ stored.now.number) }
     ensures size { IfOk result (λ binary. IfTold (D.state dumps.old).now
         (λ dump. binary ≡ sized_binary dump (stored_of index.now stored.now))) }
 {
     let Ok(size) = read_size(dumps, index, stored.section) else {
-        return Err(HolderFault::Read);
+        return Err(ReadFault::Read);
     };
     Ok(Binary {
         number: stored.number,
@@ -94,11 +95,11 @@ pub(crate) fn read_sizes<D: Dumps>(
     dumps: &mut D,
     index: &Index,
     stored: &[StoredAt],
-) -> Result<Vec<Binary>, HolderFault>
+) -> Result<Vec<Binary>, ReadFault>
     requires over { IsBuiltOver (D.state dumps.old).now index.now }
     requires within { All (λ binary. binary.section < length index.now.headers) stored.now }
     ensures reads { ReadsAtMost (D.state dumps.old) (D.state dumps.new) (17 * length stored.now) }
-    ensures fault { IfErr result (IsHolderCauseOf (D.state dumps.old) (D.state dumps.new)) }
+    ensures fault { IfErr result (IsReadCauseOf (D.state dumps.old) (D.state dumps.new)) }
     ensures numbers { IfOk result (λ binaries. numbers_in binaries.items ≡ numbers_of stored.now) }
     ensures sizes { IfOk result (λ binaries. IfTold (D.state dumps.old).now
         (λ dump. binaries.items

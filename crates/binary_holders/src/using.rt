@@ -2,27 +2,28 @@
 ghost use Rattle.std.specs.Prelude.{◌≡◌, ℕ, [], ◌∷◌, ◌+◌, ◌<◌, length, map, nat_lt, All, IfOk, IfErr};
 ghost use Rattle.std.specs.List.{count_by};
 ghost use Rattle.dump_io.specs.Dumps.{IfTold, ReadsAtMost};
+ghost use Rattle.dump_io.specs.Faults.{IsReadCauseOf};
 ghost use Rattle.dump_sections.specs.Index.{IsBuiltOver};
 ghost use Rattle.process_table.specs.Processes.{AreProcessesOver};
 ghost use Rattle.size_order.specs.Sums.{capped};
 ghost use Rattle.binary_holders.specs.Held.{holdings, whole_lines};
 ghost use Rattle.size_order.specs.Sorting.{most_first};
-ghost use Rattle.binary_holders.specs.Usage.{IsHolderCauseOf, NamesProcess, binaries_in, fronts_length, heaps_length, heaps_of, holders_in, lines_of, pids_of, shown_use, stored_in, usage_of};
+ghost use Rattle.binary_holders.specs.Usage.{NamesProcess, binaries_in, fronts_length, heaps_length, heaps_of, holders_in, lines_of, pids_of, shown_use, stored_in, usage_of};
 ghost use Rattle.binary_holders.specs.Inner.Finding.{numbers_of, stored_of};
 ghost use Rattle.binary_holders.specs.Inner.Places.{numbers_in};
 ghost use Rattle.binary_holders.specs.Inner.Rows.{AreRows, row_at};
 ghost use Rattle.binary_holders.specs.Inner.Counting.{HasCounted};
 
 use crate::counts::Counts;
-use crate::faults::{HolderFault, push_row};
 use crate::heap_places::heap_places;
 use crate::heap_sink::HeapSink;
 use crate::holding::count_all;
+use crate::pushing::push_row;
 use crate::rows::{BinaryRow, Holding, WholeLines};
 use crate::stored::{StoredAt, find_stored, read_sizes};
 use crate::targets::{Binary, Targets};
 use body_lines::make_buffer;
-use dump_io::Dumps;
+use dump_io::{Dumps, ReadFault};
 use dump_sections::Index;
 use heap_cells::enc_of;
 use process_table::Procs;
@@ -66,13 +67,13 @@ fn rows_of(
     stored: &[StoredAt],
     binaries: &[Binary],
     holders: &[u32],
-) -> Result<Vec<BinaryRow>, HolderFault>
+) -> Result<Vec<BinaryRow>, ReadFault>
     requires within { All (λ binary. binary.section < length index.now.headers) stored.now }
     requires sizes { length binaries.now ≡ length stored.now }
     requires holders { length holders.now ≡ length stored.now }
     ensures rows { IfOk result (λ rows.
         AreRows index.now stored.now binaries.now holders.now (length stored.now) rows.items) }
-    ensures fault { IfErr result (λ fault. fault ≡ HolderFault.Memory) }
+    ensures fault { IfErr result (λ fault. fault ≡ ReadFault.Memory) }
 {
     let mut rows = Vec::new(alloc);
     for k in 0..stored.len() {
@@ -95,7 +96,7 @@ fn sorted(
     mut rows: Vec<BinaryRow>,
     bytes: u64,
     lines: WholeLines,
-) -> Result<BinaryUse, HolderFault>
+) -> Result<BinaryUse, ReadFault>
     ensures held { IfOk result (λ found.
         found.held.items ≡ most_first (λ holding. holding.total) held.items) }
     ensures binaries { IfOk result (λ found.
@@ -106,15 +107,11 @@ fn sorted(
         found.with_holders ≡ count_by (λ row. nat_lt 0 row.holders) rows.items) }
     ensures named { (count : ℕ) → All (NamesProcess count) held.items
         → IfOk result (λ found. All (NamesProcess count) found.held.items) }
-    ensures fault { IfErr result (λ fault. fault ≡ HolderFault.Memory) }
+    ensures fault { IfErr result (λ fault. fault ≡ ReadFault.Memory) }
 {
     let with_holders = count_held(&rows);
-    let Ok(()) = sort_most_first(&mut held) else {
-        return Err(HolderFault::Memory);
-    };
-    let Ok(()) = sort_most_first(&mut rows) else {
-        return Err(HolderFault::Memory);
-    };
+    sort_most_first(&mut held)?;
+    sort_most_first(&mut rows)?;
     Ok(BinaryUse {
         held,
         binaries: rows,
@@ -131,12 +128,12 @@ fn count_references<D: Dumps>(
     index: &Index,
     procs: &Procs,
     targets: &Targets,
-) -> Result<(Vec<Holding>, Counts), HolderFault>
+) -> Result<(Vec<Holding>, Counts), ReadFault>
     requires over { IsBuiltOver (D.state dumps.old).now index.now }
     requires procs { AreProcessesOver index.now procs.now }
     ensures reads { ReadsAtMost (D.state dumps.old) (D.state dumps.new)
         (heaps_length index.now (pids_of procs.now.processes)) }
-    ensures fault { IfErr result (IsHolderCauseOf (D.state dumps.old) (D.state dumps.new)) }
+    ensures fault { IfErr result (IsReadCauseOf (D.state dumps.old) (D.state dumps.new)) }
     ensures room { IfOk result (λ found. length found.1.holders.items ≡ length targets.now) }
     ensures held { IfOk result (λ found. IfTold (D.state dumps.old).now
         (λ dump. found.0.items
@@ -150,15 +147,9 @@ fn count_references<D: Dumps>(
         (λ dump. found.1.lines
         ≡ whole_lines targets.now (lines_of dump index.now (pids_of procs.now.processes)))) }
 {
-    let Ok(heaps) = heap_places(alloc, index, procs) else {
-        return Err(HolderFault::Memory);
-    };
-    let Ok(counts) = Counts::new(alloc, targets.len()) else {
-        return Err(HolderFault::Memory);
-    };
-    let Ok(mut buffer) = make_buffer::<HeapSink<'_>>(alloc) else {
-        return Err(HolderFault::Memory);
-    };
+    let heaps = heap_places(alloc, index, procs)?;
+    let counts = Counts::new(alloc, targets.len())?;
+    let mut buffer = make_buffer::<HeapSink<'_>>(alloc)?;
     let mut sink = HeapSink {
         enc: enc_of(index.version()),
         targets,
@@ -180,10 +171,10 @@ fn stored_targets<D: Dumps>(
     alloc: Global,
     dumps: &mut D,
     index: &Index,
-) -> Result<(Vec<StoredAt>, Targets), HolderFault>
+) -> Result<(Vec<StoredAt>, Targets), ReadFault>
     requires { IsBuiltOver (D.state dumps.old).now index.now }
     ensures reads { ReadsAtMost (D.state dumps.old) (D.state dumps.new) (fronts_length index.now) }
-    ensures fault { IfErr result (IsHolderCauseOf (D.state dumps.old) (D.state dumps.new)) }
+    ensures fault { IfErr result (IsReadCauseOf (D.state dumps.old) (D.state dumps.new)) }
     ensures within { IfOk result (λ found.
         All (λ binary. binary.section < length index.now.headers) found.0.items) }
     ensures stored { IfOk result (λ found.
@@ -192,13 +183,9 @@ fn stored_targets<D: Dumps>(
     ensures sizes { IfOk result (λ found. IfTold (D.state dumps.old).now
         (λ dump. found.1 ≡ binaries_in dump index.now)) }
 {
-    let Ok(found) = find_stored(alloc, index) else {
-        return Err(HolderFault::Memory);
-    };
+    let found = find_stored(alloc, index)?;
     let binaries = read_sizes(alloc, dumps, index, found.binaries.as_slice())?;
-    let Ok(targets) = Targets::new(alloc, binaries, found.places) else {
-        return Err(HolderFault::Memory);
-    };
+    let targets = Targets::new(alloc, binaries, found.places)?;
     Ok((found.binaries, targets))
 }
 
@@ -219,7 +206,7 @@ pub fn binary_use<D: Dumps>(
     dumps: &mut D,
     index: &Index,
     procs: &Procs,
-) -> Result<BinaryUse, HolderFault>
+) -> Result<BinaryUse, ReadFault>
     requires over { IsBuiltOver (D.state dumps.old).now index.now }
     requires procs { AreProcessesOver index.now procs.now }
     ensures reads { ReadsAtMost (D.state dumps.old) (D.state dumps.new)
@@ -228,7 +215,7 @@ pub fn binary_use<D: Dumps>(
         (λ dump. shown_use found ≡ usage_of dump index.now (pids_of procs.now.processes))) }
     ensures named { IfOk result (λ found.
         All (NamesProcess (length procs.now.processes)) found.held.items) }
-    ensures fault { IfErr result (IsHolderCauseOf (D.state dumps.old) (D.state dumps.new)) }
+    ensures fault { IfErr result (IsReadCauseOf (D.state dumps.old) (D.state dumps.new)) }
 {
     let (stored, targets) = stored_targets(alloc, dumps, index)?;
     let (held, counts) = count_references(alloc, dumps, index, procs, &targets)?;
@@ -265,7 +252,7 @@ pub fn holders<D: Dumps>(
     index: &Index,
     procs: &Procs,
     number: u64,
-) -> Result<Vec<Holding>, HolderFault>
+) -> Result<Vec<Holding>, ReadFault>
     requires over { IsBuiltOver (D.state dumps.old).now index.now }
     requires procs { AreProcessesOver index.now procs.now }
     ensures reads { ReadsAtMost (D.state dumps.old) (D.state dumps.new)
@@ -274,11 +261,9 @@ pub fn holders<D: Dumps>(
         (λ dump. found.items ≡ holders_in dump index.now (pids_of procs.now.processes) number)) }
     ensures named { IfOk result (λ found.
         All (NamesProcess (length procs.now.processes)) found.items) }
-    ensures fault { IfErr result (IsHolderCauseOf (D.state dumps.old) (D.state dumps.new)) }
+    ensures fault { IfErr result (IsReadCauseOf (D.state dumps.old) (D.state dumps.new)) }
 {
-    let Ok(targets) = one_target(alloc, number) else {
-        return Err(HolderFault::Memory);
-    };
+    let targets = one_target(alloc, number)?;
     let (held, _counts) = count_references(alloc, dumps, index, procs, &targets)?;
     Ok(held)
 }

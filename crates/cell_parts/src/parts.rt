@@ -1,11 +1,12 @@
 // The different cells to which elements lead.
-ghost use Rattle.std.specs.Prelude.{◌≡◌, ℕ, ◌+◌, ◌<◌, ◌≤◌, ◌^◌, ◌++◌, [], ◌∷◌, List, Some, All, length, map, nat_eq, slice_get, slice_range, IfNone, IfOk, IfSome, OnOk, false, if◌then◌else◌};
+ghost use Rattle.std.specs.Prelude.{◌≡◌, ℕ, ◌+◌, ◌<◌, ◌^◌, ◌++◌, [], ◌∷◌, List, Some, All, length, map, nat_eq, slice_get, IfNone, IfOk, IfSome, OnOk, false, if◌then◌else◌};
 ghost use Rattle.std.specs.Result.{is_ok};
 ghost use Rattle.std.specs.List.{list_any, IsDistinct};
 ghost use Rattle.std.specs.Option.{option_map};
 ghost use Rattle.cell_parts.specs.Parts.{ArePartsOf, PartElement};
 ghost use Rattle.cell_parts.specs.Inner.Joining.{cell_at, counted, is_of, joined, part_alone};
 
+use dump_io::items_between;
 use std::alloc::{AllocError, Global};
 use std::marker::Model;
 
@@ -84,14 +85,6 @@ fn push_label(labels: &mut Vec<u8>, label: &[u8]) -> Result<(u32, u32), AllocErr
     Ok((from, size))
 }
 
-fn label_in(labels: &[u8], from: usize, upto: usize) -> &[u8]
-    requires ordered { from ≤ upto }
-    requires within { upto ≤ length labels.now }
-    ensures { result.now ≡ slice_range labels.now from upto }
-{
-    &labels[from..upto]
-}
-
 impl Parts {
     /// No parts, of `cells` cells. Takes four bytes for each cell.
     pub fn new(alloc: Global, cells: usize) -> Result<Parts, AllocError>
@@ -162,7 +155,7 @@ impl Parts {
     {
         let kept = self.kept[part];
         let from = kept.from as usize;
-        label_in(&self.labels, from, from + kept.size as usize)
+        items_between(&self.labels, from, from + kept.size as usize)
     }
 
     // An element leads to a cell that is no part yet.

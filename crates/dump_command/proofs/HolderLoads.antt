@@ -7,19 +7,11 @@ use Rattle.dump_sections.specs.Sections.{Section}
 use Rattle.dump_sections.specs.Loading.{bodies_length, large_fault}
 use Rattle.process_table.specs.Processes.{Process, ProcessTable, process_table}
 use Rattle.process_table.specs.Records.{record_sections}
-use Rattle.binary_holders.specs.Usage.{IsHolderCauseOf, pids_of}
-use Rattle.binary_holders.specs.declared.faults.HolderFault.{HolderFault}
-use Rattle.binary_holders.specs.declared.faults.HolderFault.TheVariants as holder_faults
+use Rattle.binary_holders.specs.Usage.{pids_of}
 use Rattle.dump_command.specs.Meaning.{Meaning, of_holders}
 use Rattle.dump_command.specs.Inner.Loads.{seen_held}
-use Rattle.dump_command.specs.Inner.Reading.{HasRead, IsIndexed, StopsFor, Takes}
-use Rattle.dump_command.specs.Inner.Stops.{stop_of_holders}
+use Rattle.dump_command.specs.Inner.Reading.{HasRead, IsIndexed, Takes}
 use Rattle.dump_command.proofs.Reading.{none-large, HasRead-listed, IsOfBodies, Takes-listed}
-
--- the heaps weren't looked through
-pub StopsFor-holders : (before after : DeviceState) (fault : HolderFault) → IsHolderCauseOf before after fault → StopsFor before after (λ why. ⊥) (stop_of_holders fault)
-StopsFor-holders before after holder_faults.Read cause = cause.1
-StopsFor-holders before after holder_faults.Memory cause = tt
 
 module _ {A : Type 0} (before : List Section → List Section) (more : Contents → List (List ℕ) → ℕ) (held : List ℕ → Contents → List (List ℕ) → A) (show : Contents → List Process → A → List ℕ)
     (limits : Numbers) (index : Contents) where

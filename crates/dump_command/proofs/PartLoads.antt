@@ -15,19 +15,12 @@ use Rattle.binary_payloads.specs.declared.enc.Enc.{Enc}
 use Rattle.heap_cells.specs.Cells.{first_cells}
 use Rattle.heap_cells.specs.DumpHeaps.{heap_map}
 use Rattle.heap_cells.specs.Loading.{enc_of, heap_bodies, heap_section, literals_section, two_bodies}
-use Rattle.heap_lines.specs.Tables.{IsTableCauseOf}
 use Rattle.heap_lines.specs.Wholes.{cells_in, HasLines}
 use Rattle.heap_lines.specs.declared.whole.HeapLines.{HeapLines}
-use Rattle.heap_lines.specs.declared.faults.TableFault.{TableFault}
-use Rattle.heap_lines.specs.declared.faults.TableFault.TheVariants as table_faults
-use Rattle.heap_parts.specs.Firsts.{IsLawful, IsPartCause}
-use Rattle.heap_parts.specs.declared.faults.PartFault.{PartFault}
-use Rattle.heap_parts.specs.declared.faults.PartFault.TheVariants as part_faults
+use Rattle.heap_parts.specs.Firsts.{IsLawful}
 use Rattle.report_lines.specs.Lines.{line_of, total_line, word_space}
 use Rattle.report_text.specs.declared.refusals.Refusal.{Refusal}
-use Rattle.root_lines.specs.Shown.{shown_roots, IsRootsCauseOf, SomeRoots}
-use Rattle.root_lines.specs.declared.faults.RootsFault.{RootsFault}
-use Rattle.root_lines.specs.declared.faults.RootsFault.TheVariants as roots_faults
+use Rattle.root_lines.specs.Shown.{shown_roots, SomeRoots}
 use Rattle.root_views.specs.Kinds.{roots_in}
 use Rattle.root_views.specs.Sections.{root_section}
 use Rattle.root_views.specs.declared.kinds.RootKind.{RootKind}
@@ -44,31 +37,13 @@ use Rattle.dump_command.specs.Terms.{address_cause, binary_count}
 use Rattle.dump_command.specs.Inner.Loads.{lacks, unknown_cause, walk_in, AreAnswered, GivesPart, ReadsPart}
 use Rattle.dump_command.specs.declared.commands.peek.HeapPart.{HeapPart}
 use Rattle.dump_command.specs.Inner.Reading.{HasRead, IsHalted, IsIndexed, ReadsFor, StopsFor, Takes}
-use Rattle.dump_command.specs.Inner.Stops.{stop_of_part, stop_of_roots, stop_of_table, Judges}
+use Rattle.dump_command.specs.Inner.Stops.{Judges}
 use Rattle.dump_command.specs.declared.stop.Stop.{Stop}
 use Rattle.dump_command.specs.declared.stop.Stop.TheVariants.{Refused, NotRead, NotWritten, NoMemory}
 use Rattle.dump_command.proofs.HeapLoads.{bytes-loaded}
 use Rattle.dump_command.proofs.Reading.{HasRead-listed, StopsFor-judged, StopsFor-too, Takes-listed}
 
 -- ---- why it wasn't read
-
-module _ (before after : DeviceState) where
-  -- the lines of the heap weren't found
-  pub StopsFor-table : (fault : TableFault) → IsTableCauseOf before after fault → StopsFor before after (λ why. ⊥) (stop_of_table fault)
-  StopsFor-table table_faults.Read cause = cause.1
-  StopsFor-table table_faults.Memory cause = tt
-
-  -- those that the terms need weren't loaded
-  pub StopsFor-part : (fault : PartFault) → IsPartCause before after fault → StopsFor before after (λ why. ⊥) (stop_of_part fault)
-  StopsFor-part part_faults.Read cause = cause
-  StopsFor-part part_faults.TooLarge cause = tt
-  StopsFor-part (part_faults.TooDense count) cause = tt
-  StopsFor-part part_faults.Memory cause = tt
-
-  -- the roots weren't read
-  pub StopsFor-roots : (fault : RootsFault) → IsRootsCauseOf before after fault → StopsFor before after (λ why. ⊥) (stop_of_roots fault)
-  StopsFor-roots roots_faults.Read cause = cause.1
-  StopsFor-roots roots_faults.Memory cause = tt
 
 -- behind a call that reads, a later one stopped it
 StopsFor-behind : (old mid new : DeviceState) (count : ℕ) (P Q : Refusal → Type 0) (stop : Stop) → ReadsAtMost old mid count → StopsFor mid new P stop

@@ -1,4 +1,5 @@
 -- What a command reads of the dump that is open, by the clauses of what it calls.
+use Rattle.dump_io.specs.declared.faults.ReadFault.TheVariants as read_faults
 use Rattle.dump_sections.specs.declared.bodies.BodyFault.TheVariants as body_faults
 use Rattle.std.proofs.Common.{◌≡◌, ℕ, ◌≤◌, List, Option, None, Some, Result, Ok, Err, refl, sym, ◌∙◌, ap, subst, inl, arith, ◌⊎◌, Bool, true, false, if◌then◌else◌, codes, inr}
 use Rattle.std.specs.Prelude.{IfOk, IsErrAnd, MatchResult, is_some}
@@ -7,6 +8,8 @@ use Rattle.std.specs.Str.{bytes_eq}
 use Rattle.std.proofs.lemmas.Result.{IfOk-weaker}
 use Rattle.std.proofs.lemmas.Slice.Eq.{bytes_eq-Decides}
 use Rattle.dump_io.specs.Dumps.{DeviceState, told, ReadsAtMost, DeviceFailed}
+use Rattle.dump_io.specs.Faults.{IsReadCauseOf}
+use Rattle.dump_io.specs.declared.faults.ReadFault.{ReadFault}
 use Rattle.dump_io.specs.Laws.Options.{is_some-map}
 use Rattle.dump_io.specs.Laws.Reads.{ReadsAtMost-none}
 use Rattle.dump_io.specs.Limits.{Numbers}
@@ -25,7 +28,7 @@ use Rattle.report_text.specs.Reports.{version_text}
 use Rattle.dump_command.specs.Meaning.{Meaning, Part, of_bodies, of_section, overview_of}
 use Rattle.dump_command.specs.Report.{large_refusal, refusal_listed, too_large}
 use Rattle.dump_command.specs.Inner.Reading.{IsIndexed, HasRead, IsHalted, ReadsFor, StopsFor, Takes, Tells}
-use Rattle.dump_command.specs.Inner.Stops.{or_stop, stop_of_body, Judges}
+use Rattle.dump_command.specs.Inner.Stops.{or_stop, stop_of_body, stop_of_reading, Judges}
 use Rattle.dump_command.specs.declared.stop.Stop.{Stop}
 use Rattle.dump_command.specs.declared.stop.Stop.TheVariants.{Refused, NotRead, NotWritten, NoMemory}
 use Rattle.dump_command.specs.Inner.Loads.{IsBodyFound, seen_overview, shown_body}
@@ -52,6 +55,11 @@ module _ (before after : DeviceState) (P : Refusal → Type 0) where
   StopsFor-bodies ss limit body_faults.Read cause follows = cause.1
   StopsFor-bodies ss limit body_faults.Memory cause follows = tt
   StopsFor-bodies ss limit (body_faults.SectionTooLarge at len) cause follows = (tt, follows (SectionTooLarge at len) (ap (option_map large_refusal) cause))
+
+  -- for why a call wasn't done that refuses nothing
+  pub StopsFor-reading : (fault : ReadFault) → IsReadCauseOf before after fault → StopsFor before after P (stop_of_reading fault)
+  StopsFor-reading read_faults.Read cause = cause.1
+  StopsFor-reading read_faults.Memory cause = tt
 
 -- what halted a command is what its `?` returns
 pub ReadsFor-halted : {V E : Type 0} (P : V → Type 0) (Q : E → Type 0) (result : Result V E) (stop : E) → IsErrAnd result (λ e. e ≡ stop) → Q stop → MatchResult result P Q

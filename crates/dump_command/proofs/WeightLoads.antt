@@ -4,6 +4,8 @@ use Rattle.std.specs.Prelude.{is_some, IfOk}
 use Rattle.std.specs.Option.{option_map, option_or}
 use Rattle.dump_io.specs.Laws.Options.{is_some-map}
 use Rattle.dump_io.specs.Dumps.{DeviceState, ReadsAtMost, told as dumps_told}
+use Rattle.dump_io.specs.Faults.{IsReadCauseOf}
+use Rattle.dump_io.specs.declared.faults.ReadFault.{ReadFault}
 use Rattle.dump_io.specs.Laws.Lists.{position-map}
 use Rattle.dump_io.specs.Limits.{Numbers}
 use Rattle.dump_sections.specs.Index.{Contents, index_of, sections_in}
@@ -14,25 +16,17 @@ use Rattle.heap_cells.specs.DumpHeaps.{heap_map}
 use Rattle.heap_cells.specs.HeapMap.{HeapMap}
 use Rattle.heap_cells.specs.Loading.{heap_bodies}
 use Rattle.heap_skeleton.specs.Skeletons.{skeleton_for}
-use Rattle.part_weights.specs.Loading.{IsWeightsCauseOf}
 use Rattle.part_weights.specs.Weights.{Weighing, address_weighing, cell_weighing}
-use Rattle.part_weights.specs.declared.faults.WeightsFault.{WeightsFault}
-use Rattle.part_weights.specs.declared.faults.WeightsFault.TheVariants as weights_faults
 use Rattle.report_text.specs.declared.refusals.Refusal.{Refusal}
 use Rattle.term_unfold.specs.Parts.{has_cell}
 use Rattle.dump_command.specs.Meaning.{Meaning, no_body, no_process, of_weights}
 use Rattle.dump_command.specs.Report.{refusal_listed}
 use Rattle.dump_command.specs.Terms.{address_cause, no_address}
-use Rattle.dump_command.specs.Inner.Reading.{IsHalted, IsIndexed, ReadsFor, StopsFor, Takes}
-use Rattle.dump_command.specs.Inner.Stops.{stop_of_weights, Judges}
+use Rattle.dump_command.specs.Inner.Reading.{IsHalted, IsIndexed, ReadsFor, Takes}
+use Rattle.dump_command.specs.Inner.Stops.{stop_of_reading, Judges}
 use Rattle.dump_command.specs.declared.stop.Stop.{Stop}
 use Rattle.dump_command.proofs.HeapLoads.{bytes-loaded}
-use Rattle.dump_command.proofs.Reading.{HasRead-listed, IsHalted-held, StopsFor-too, Takes-listed}
-
--- the parts weren't weighed
-StopsFor-weights : (before after : DeviceState) (fault : WeightsFault) → IsWeightsCauseOf before after fault → StopsFor before after (λ why. ⊥) (stop_of_weights fault)
-StopsFor-weights before after weights_faults.Read cause = cause.1
-StopsFor-weights before after weights_faults.Memory cause = tt
+use Rattle.dump_command.proofs.Reading.{HasRead-listed, IsHalted-held, StopsFor-reading, Takes-listed}
 
 module _ {A : Type 0} (pid : List ℕ) (before : List Section → List Section) (refuses : HeapMap → Option Refusal) (what : List ℕ → A) (show : A → List ℕ) (limits : Numbers) (index : Contents)
     (old new : DeviceState) (there : no_process pid (sections_in index) ≡ None) where
@@ -47,9 +41,9 @@ module _ {A : Type 0} (pid : List ℕ) (before : List Section → List Section) 
   Takes-weights count reads few = Takes-listed means limits index old new count listed-weights reads (λ bytes all. omega (arith, few, bytes-loaded pid before index bytes all.is))
 
   -- why the parts weren't weighed
-  pub IsHalted-weights : (fault : WeightsFault) → Takes means limits index old new → IsWeightsCauseOf old new fault → IsHalted means limits index old new (stop_of_weights fault)
+  pub IsHalted-weights : (fault : ReadFault) → Takes means limits index old new → IsReadCauseOf old new fault → IsHalted means limits index old new (stop_of_reading fault)
   IsHalted-weights fault takes cause =
-      record { takes = takes; cause = StopsFor-too old new (λ why. ⊥) _ (stop_of_weights fault) (StopsFor-weights old new fault cause) (λ why none. absurd none) }
+      record { takes = takes; cause = StopsFor-reading old new _ fault cause }
 
 -- there is a cell at the address exactly if its parts were weighed
 pub found-told : (pid bytes : List ℕ) (index : Contents) (addr : ℕ) → index ≡ index_of bytes → no_address addr (heap_map pid bytes) ≡ address_cause addr (is_some (address_weighing bytes index pid addr))

@@ -1,21 +1,14 @@
 // Why a command ended without its whole report.
 ghost use Rattle.std.specs.Prelude.{◌≡◌};
-ghost use Rattle.dump_command.specs.Inner.Stops.{or_stop, stop_of_opening, stop_of_body, stop_of_large, stop_of_heap, stop_of_previews, stop_of_table, stop_of_part, stop_of_roots, stop_of_shapes, stop_of_weights, stop_of_holders, stop_of_stacks, stop_of_redact, stop_of_json};
+ghost use Rattle.dump_command.specs.Inner.Stops.{or_stop, stop_of_opening, stop_of_body, stop_of_large, stop_of_heap, stop_of_previews, stop_of_reading, stop_of_redact, stop_of_json};
 
-use binary_holders::HolderFault;
 use binary_refs::PreviewFault;
-use dump_io::Failed;
+use dump_io::{Failed, ReadFault};
 use dump_redact::RedactFault;
 use dump_sections::{BodyFault, LargeSection};
 use heap_cells::HeapFault;
-use heap_lines::TableFault;
-use heap_parts::PartFault;
 use json_report::JsonFault;
-use message_shapes::ShapesFault;
-use part_weights::WeightsFault;
-use process_stacks::StackFault;
 use report_text::Refusal;
-use root_lines::RootsFault;
 use section_index::OpenFault;
 use std::alloc::AllocError;
 
@@ -100,80 +93,13 @@ impl From<PreviewFault> for Stop {
     }
 }
 
-impl From<TableFault> for Stop {
-    ghost from_gives = { λ fault stop. stop ≡ stop_of_table fault };
+impl From<ReadFault> for Stop {
+    ghost from_gives = { λ fault stop. stop ≡ stop_of_reading fault };
 
-    fn from(fault: TableFault) -> Stop {
+    fn from(fault: ReadFault) -> Stop {
         match fault {
-            TableFault::Read => Stop::NotRead,
-            TableFault::Memory => Stop::NoMemory,
-        }
-    }
-}
-
-impl From<PartFault> for Stop {
-    ghost from_gives = { λ fault stop. stop ≡ stop_of_part fault };
-
-    // What the terms need is no definition, so that a part that exceeds a limit can't be refused.
-    fn from(fault: PartFault) -> Stop {
-        match fault {
-            PartFault::Read => Stop::NotRead,
-            PartFault::TooLarge | PartFault::TooDense { .. } | PartFault::Memory => Stop::NoMemory,
-        }
-    }
-}
-
-impl From<RootsFault> for Stop {
-    ghost from_gives = { λ fault stop. stop ≡ stop_of_roots fault };
-
-    fn from(fault: RootsFault) -> Stop {
-        match fault {
-            RootsFault::Read => Stop::NotRead,
-            RootsFault::Memory => Stop::NoMemory,
-        }
-    }
-}
-
-impl From<ShapesFault> for Stop {
-    ghost from_gives = { λ fault stop. stop ≡ stop_of_shapes fault };
-
-    fn from(fault: ShapesFault) -> Stop {
-        match fault {
-            ShapesFault::Read => Stop::NotRead,
-            ShapesFault::Memory => Stop::NoMemory,
-        }
-    }
-}
-
-impl From<WeightsFault> for Stop {
-    ghost from_gives = { λ fault stop. stop ≡ stop_of_weights fault };
-
-    fn from(fault: WeightsFault) -> Stop {
-        match fault {
-            WeightsFault::Read => Stop::NotRead,
-            WeightsFault::Memory => Stop::NoMemory,
-        }
-    }
-}
-
-impl From<HolderFault> for Stop {
-    ghost from_gives = { λ fault stop. stop ≡ stop_of_holders fault };
-
-    fn from(fault: HolderFault) -> Stop {
-        match fault {
-            HolderFault::Read => Stop::NotRead,
-            HolderFault::Memory => Stop::NoMemory,
-        }
-    }
-}
-
-impl From<StackFault> for Stop {
-    ghost from_gives = { λ fault stop. stop ≡ stop_of_stacks fault };
-
-    fn from(fault: StackFault) -> Stop {
-        match fault {
-            StackFault::Read => Stop::NotRead,
-            StackFault::Memory => Stop::NoMemory,
+            ReadFault::Read => Stop::NotRead,
+            ReadFault::Memory => Stop::NoMemory,
         }
     }
 }

@@ -38,14 +38,6 @@ pub fn line_len(bytes: &[u8]) -> usize
     }
 }
 
-/// The bytes from a place on, such as those behind the first line.
-pub fn bytes_from(bytes: &[u8], from: usize) -> &[u8]
-    requires { from ≤ length bytes.now }
-    ensures { result.now ≡ drop from bytes.now }
-{
-    &bytes[from..]
-}
-
 /// States a law and does no work: the lines of any bytes are the only list that satisfies
 /// the rule of lines. Together the lines are the bytes, none is empty, LF stands only at
 /// the end of a line, and only the last line may lack it. So a line with its LF, followed

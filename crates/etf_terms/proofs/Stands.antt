@@ -2,8 +2,8 @@
 use Rattle.std.proofs.Common.{◌≡◌, ℕ, suc, ◌+◌, ◌<◌, ◌≤◌, ◌==◌, ◌⊎◌, ⊎_elim, Bool, true, false, cond, max, List, [], ◌∷◌, ◌++◌, length, Ok, Err, refl, sym, ap, ◌∙◌, subst, arith, append_assoc, append-nil, Bor}
 use Rattle.std.proofs.lemmas.Bool.{true≢false}
 use Rattle.std.proofs.lemmas.Bool.Decides.{eqb_tells}
-use Rattle.dump_io.specs.Sinks.{SinkState, Puts, GainedFront}
-use Rattle.dump_io.specs.Laws.Puts.{HasPut-none, HasPut-both, HasPut-done, Puts-behind, Puts-stopped}
+use Rattle.dump_io.specs.Sinks.{SinkState, Puts, HasPutPart, GainedFront}
+use Rattle.dump_io.specs.Laws.Puts.{HasPut-done, HasPutPart-next, HasPutPart-rest, Puts-behind, Puts-stopped}
 use Rattle.etf_terms.specs.declared.stack.Kind.{Kind}
 use Rattle.etf_terms.specs.declared.stack.Kind.TheVariants as kinds
 use Rattle.etf_terms.specs.declared.stack.Entry.{Entry}
@@ -12,7 +12,7 @@ use Rattle.etf_terms.specs.Heads.{Head, kids}
 use Rattle.etf_terms.specs.Terms.{Term, node, Terms, none, more, count, IsTerm, AreTerms}
 use Rattle.etf_terms.specs.Text.{terms_kind, closing, own_text, inner, text}
 use Rattle.etf_terms.specs.Inner.Parts.{head_of}
-use Rattle.etf_terms.specs.Inner.Standing.{entry_of, entered, ended, next_of, Stands, IsPart, Moves}
+use Rattle.etf_terms.specs.Inner.Standing.{entry_of, entered, ended, next_of, Stands, Moves}
 use Rattle.etf_terms.proofs.Firsts.{first-of, regroup, same-head, not-both, depth-own, no-terms}
 
 -- ---- an entry that wants no more
@@ -158,27 +158,15 @@ moves-err {T} {E} {F} {a} {b} bytes whole later room es e d puts splits =
     let broken : Puts {T = T} {E = E} a b (bytes ++ later) (Err e) = Puts-stopped later refl puts in
     record { later = puts.later; writes = subst (GainedFront a b) (sym splits) broken.writes.front; failed = puts.failed }
 
--- a part behind a part
-pub IsPart-next : {a b c : SinkState} (whole later last : List ℕ) → IsPart a b whole later → IsPart b c later last → IsPart a c whole last
-IsPart-next whole later last first second =
-    record {
-      part = first.part ++ second.part;
-      put = HasPut-both first.put second.put;
-      splits = first.splits ∙ ap (λ l. first.part ++ l) second.splits ∙ sym (append_assoc first.part second.part last);
-    }
-
-pub IsPart-none : {a : SinkState} (whole : List ℕ) → IsPart a a whole whole
-IsPart-none whole = record { part = []; put = HasPut-none; splits = refl }
-
 -- a move behind those that went well
-pub moves-on : {E : Type 0} {a b c : SinkState} (whole later : List ℕ) (room : ℕ) (es : List Entry) (rest : Bor (List ℕ)) → IsPart a b whole later
-    → Moves {E = E} b c later room es (Ok rest) → (to_come : List ℕ) × IsPart a c whole to_come × Stands room es rest.now to_come
+pub moves-on : {E : Type 0} {a b c : SinkState} (whole later : List ℕ) (room : ℕ) (es : List Entry) (rest : Bor (List ℕ)) → HasPutPart a b whole later
+    → Moves {E = E} b c later room es (Ok rest) → (to_come : List ℕ) × HasPutPart a c whole to_come × Stands room es rest.now to_come
 moves-on whole later room es rest part move =
-    (move.writes.0, IsPart-next whole later move.writes.0 part move.writes.1, move.writes.2)
+    (move.writes.0, HasPutPart-next whole later move.writes.0 part move.writes.1, move.writes.2)
 
 -- one that failed
-pub moves-broken : {T E F : Type 0} {a b c : SinkState} (whole later : List ℕ) (room : ℕ) (es : List Entry) (e : E) (d : F) → IsPart a b whole later
+pub moves-broken : {T E F : Type 0} {a b c : SinkState} (whole later : List ℕ) (room : ℕ) (es : List Entry) (e : E) (d : F) → HasPutPart a b whole later
     → Moves b c later room es (Err e) → Puts {T = T} a c whole (Err d)
 moves-broken {T} {E} {F} {a} {b} {c} whole later room es e d part move =
     let broken : Puts {T = T} {E = F} b c later (Err d) = record { later = move.later; writes = record { whole = tt; front = move.writes }; failed = move.failed } in
-    subst (λ l. Puts {T = T} {E = F} a c l (Err d)) (sym part.splits) (Puts-behind part.put broken)
+    HasPutPart-rest whole later (Err d) part broken

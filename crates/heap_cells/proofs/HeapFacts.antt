@@ -1,11 +1,11 @@
 -- The whole of a heap.
-use Rattle.std.proofs.Common.{◌≡◌, ℕ, ◌+◌, ◌-◌, ◌≤◌, ◌==◌, ◌||◌, Bool, true, false, cond, List, [], ◌∷◌, ◌++◌, length, take, drop, map, Option, None, Some, refl, sym, ◌∙◌, ap, subst, arith, append_assoc, length-append}
+use Rattle.std.proofs.Common.{◌≡◌, ℕ, ◌+◌, ◌-◌, ◌≤◌, ◌==◌, ◌||◌, Bool, true, false, cond, List, [], ◌∷◌, ◌++◌, length, take, drop, map, Option, None, Some, refl, sym, ◌∙◌, ap, subst, arith, length-append}
 use Rattle.dump_io.specs.Limits.{usual}
 use Rattle.std.specs.Prelude.{nat_eq, slice_get, slice_range}
 use Rattle.std.specs.Option.{option_map, option_map_or}
 use Rattle.std.specs.List.{list_any, flat_map, IsDistinct, AllByRecursion}
 use Rattle.std.proofs.lemmas.Bool.{true≢false, false_from_ne_true, eqb-true, eq-eqb}
-use Rattle.std.proofs.lemmas.List.{length-map, take-map, drop-map, take-append-drop, append-nil}
+use Rattle.std.proofs.lemmas.List.{length-map, take-map, drop-map, take-append-drop}
 use Rattle.std.proofs.Math.Seq.{take-append_seam}
 use Rattle.std.proofs.lemmas.List.Folds.{list_any-append}
 use Rattle.std.proofs.lemmas.List.Sums.{sum_by-cons}
@@ -29,7 +29,8 @@ use Rattle.cell_records.specs.Order.{addresses_of, number_with}
 use Rattle.cell_records.specs.Slots.{start_at, slots_at, AreOrdered}
 use Rattle.heap_cells.specs.Inner.Records.{cell_in, cells_in, elements_by, AreLaid, AreSlots, Spells, AllSpell, IsArena}
 use Rattle.cell_records.specs.Resolving.{settled}
-use Rattle.heap_cells.proofs.KeepingFacts.{is_seen, indexed, cond-append}
+use Rattle.heap_cells.specs.Laws.Cells.{first_cells-append}
+use Rattle.heap_cells.proofs.KeepingFacts.{is_seen, indexed}
 use Rattle.heap_cells.proofs.RecordFacts.{has-at, piece-of, number-at, weight-slots}
 use Rattle.std.proofs.Math.Bool.{or-true}
 
@@ -52,13 +53,6 @@ weight-first seen (cell ∷ cells) =
     let later = first_cells (seen ++ cell.address ∷ []) cells in
     let few = weight-unless (is_seen seen cell) cell later (weight_of cells) (weight-first (seen ++ cell.address ∷ []) cells) in
     omega (arith, few, sum_by-cons cell_weight cell cells)
-
-first_cells-append : (seen : List ℕ) (xs ys : List Cell) → first_cells seen (xs ++ ys) ≡ first_cells seen xs ++ first_cells (seen ++ addresses xs) ys
-first_cells-append seen [] ys = ap (λ l. first_cells l ys) (sym (append-nil seen))
-first_cells-append seen (cell ∷ xs) ys =
-    let more = seen ++ cell.address ∷ [] in
-    let later = first_cells-append more xs ys ∙ ap (λ l. first_cells more xs ++ first_cells l ys) (append_assoc seen (cell.address ∷ []) (addresses xs)) in
-    ap (λ l. cond (is_seen seen cell) l (cell ∷ l)) later ∙ cond-append (is_seen seen cell) (first_cells more xs) (first_cells (seen ++ addresses (cell ∷ xs)) ys) cell
 
 pub first-few : (cells : List Cell) (own : ℕ) → length (first_cells [] (take own cells)) ≤ length (first_cells [] cells)
 first-few cells own =

@@ -1,20 +1,14 @@
 -- Where addresses and elements lead.
-use Rattle.std.proofs.Common.{◌≡◌, ℕ, ◌<◌, ◌==◌, List, length, map, get_or, Option, None, Some, refl, sym, ◌∙◌, ap, subst, arith}
+use Rattle.std.proofs.Common.{◌≡◌, ℕ, ◌<◌, List, length, map, get_or, Option, None, Some, refl, sym, ◌∙◌, ap, subst, arith}
 use Rattle.std.specs.Prelude.{All}
 use Rattle.std.proofs.Math.ListN.{get_or-map as get_or-map_same}
 use Rattle.std.proofs.lemmas.List.{get_or-map, length-map}
-use Rattle.std.proofs.lemmas.List.Quantifiers.{position-Some}
 use Rattle.term_forms.specs.Elements.{Element, Nil, Ref}
 use Rattle.cell_records.specs.declared.cells.Slot.{Slot}
 use Rattle.heap_cells.specs.Cells.{Cell}
 use Rattle.heap_cells.specs.HeapMap.{number_at}
+use Rattle.heap_cells.specs.Laws.Cells.{number_at-within}
 use Rattle.heap_cells.specs.Targets.{target, target_at, slot_target, IsWithin}
-
-no_cell : Cell
-no_cell = record { address = 0; form = None }
-
-pub number_at-within : (cells : List Cell) (address n : ℕ) → number_at cells address ≡ Some n → n < length cells
-number_at-within cells address n is = (position-Some (λ cell. cell.address == address) cells n no_cell is).0
 
 target_at-within : (cells : List Cell) (address : ℕ) (found : Option ℕ) → number_at cells address ≡ found → IsWithin (length cells) (target_at address found)
 target_at-within cells address None is = tt

@@ -1,13 +1,13 @@
 // What the text of a cell's form spells: its kind, and the slots of its elements.
 ghost use Rattle.std.specs.Prelude.{◌≡◌, ◌+◌, ◌^◌, ◌<◌, ◌≤◌, ◌∷◌, [], length, None, Some, OnOk, IfOk};
 ghost use Rattle.term_forms.specs.Seen.{element};
-ghost use Rattle.term_forms.specs.SeenForms.{heap_form};
 ghost use Rattle.term_forms.specs.SeenPlaces.{placed};
 ghost use Rattle.term_forms.specs.ReadingForms.{form_of};
-ghost use Rattle.heap_cells.specs.Cells.{elements_in, kind_of};
+ghost use Rattle.heap_cells.specs.Cells.{elements_in};
 ghost use Rattle.heap_cells.specs.Inner.Found.{read_of, read_with, spelled_elements, PushesTo, IsReadTo};
 ghost use Rattle.heap_cells.specs.Inner.Gathering.{slot_with};
 
+use crate::kinds::kind_of;
 use cell_records::{Kind, Slot, Span};
 use std::alloc::AllocError;
 use term_forms::shapes::{Elem, Form, Opened};
@@ -18,26 +18,6 @@ use term_forms::{Enc, Joined, PlacedElem, front_is_longest, open_form, whole_is_
 pub(crate) struct Read {
     pub kind: Option<Kind>,
     pub count: u64,
-}
-
-fn kind_of(form: &Form<'_>) -> Kind
-    ensures { result ≡ kind_of (heap_form form.now) }
-{
-    match form {
-        Form::List(_, _) => Kind::List,
-        Form::Tuple(_) => Kind::Tuple,
-        Form::Float(_) => Kind::Float,
-        Form::Long(_) => Kind::Long,
-        Form::Pid(_) => Kind::Pid,
-        Form::Port(_) => Kind::Port,
-        Form::Ext(_, _) => Kind::Ext,
-        Form::HeapBin(_, _) => Kind::HeapBin,
-        Form::RefBin(_, _, _) => Kind::RefBin,
-        Form::SubBin(_, _, _) => Kind::SubBin,
-        Form::Flat(_, _) => Kind::Flat,
-        Form::Hash(_, _) => Kind::Hash,
-        Form::Node(_) => Kind::Node,
-    }
 }
 
 // The slot of an immediate, given the place where its spelling begins, and how many bytes it has.

@@ -1,8 +1,9 @@
 // The texts of the two bodies of a heap.
-ghost use Rattle.std.specs.Prelude.{◌≡◌, ◌≤◌, length, slice_range};
+ghost use Rattle.std.specs.Prelude.{◌≡◌, length, slice_range};
 ghost use Rattle.heap_cells.specs.Inner.Parts.{IsPart};
 ghost use Rattle.heap_cells.specs.Inner.Texts.{text_of, seam_of};
 
+use dump_io::items_between;
 use term_forms::Enc;
 
 // The body of the process's own heap and that of the literals, as they were read, and how their payloads
@@ -14,14 +15,6 @@ pub(crate) struct Texts {
     pub enc: Enc,
 }
 
-fn slice(bytes: &[u8], from: usize, upto: usize) -> &[u8]
-    requires ordered { from ≤ upto }
-    requires within { upto ≤ length bytes.now }
-    ensures { result.now ≡ slice_range bytes.now from upto }
-{
-    &bytes[from..upto]
-}
-
 // The bytes from one place up to another, both in the same body.
 pub(crate) fn part(texts: &Texts, from: usize, upto: usize) -> &[u8]
     requires { IsPart (seam_of texts.now) (length (text_of texts.now)) from upto }
@@ -29,8 +22,8 @@ pub(crate) fn part(texts: &Texts, from: usize, upto: usize) -> &[u8]
 {
     let seam = texts.heap.len();
     if from < seam {
-        slice(&texts.heap, from, upto)
+        items_between(&texts.heap, from, upto)
     } else {
-        slice(&texts.literals, from - seam, upto - seam)
+        items_between(&texts.literals, from - seam, upto - seam)
     }
 }

@@ -13,10 +13,8 @@
 #![tactic(auto)]
 
 mod address_sink;
-mod faults;
 mod line_table;
 mod whole;
 
-pub use faults::TableFault;
 pub use line_table::LineTable;
 pub use whole::HeapLines;

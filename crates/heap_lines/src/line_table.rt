@@ -3,14 +3,14 @@ ghost use Rattle.std.specs.Prelude.{◌≡◌, ◌-◌, ◌≤◌, IfErr, IfOk};
 ghost use Rattle.std.specs.List.{between};
 ghost use Rattle.std.specs.Ordering.{nat_cmp};
 ghost use Rattle.dump_io.specs.Dumps.{size_of, IsOpen, ReadsAtMost, IfTold};
+ghost use Rattle.dump_io.specs.Faults.{IsReadCauseOf};
 ghost use Rattle.first_sections.specs.Places.{place_by};
 ghost use Rattle.heap_parts.specs.Places.{placed_lines};
-ghost use Rattle.heap_lines.specs.Tables.{IsTableCauseOf, IsTableOf};
+ghost use Rattle.heap_lines.specs.Tables.{IsTableOf};
 
 use crate::address_sink::AddressSink;
-use crate::faults::TableFault;
 use body_lines::{ByLine, LinesFault, hear_body, make_buffer};
-use dump_io::Dumps;
+use dump_io::{Dumps, ReadFault};
 use first_sections::FirstPlaces;
 use std::alloc::Global;
 use std::marker::Model;
@@ -22,12 +22,12 @@ fn hear_lines<D: Dumps>(
     dumps: &mut D,
     from: u64,
     upto: u64,
-) -> Result<Vec<(u64, usize)>, TableFault>
+) -> Result<Vec<(u64, usize)>, ReadFault>
     requires open { IsOpen (D.state dumps.old).now }
     requires within { upto ≤ size_of (D.state dumps.old).now }
     requires ordered { from ≤ upto }
     ensures reads { ReadsAtMost (D.state dumps.old) (D.state dumps.new) (upto - from) }
-    ensures fault { IfErr result (IsTableCauseOf (D.state dumps.old) (D.state dumps.new)) }
+    ensures fault { IfErr result (IsReadCauseOf (D.state dumps.old) (D.state dumps.new)) }
     ensures lines { IfOk result (λ lines. IfTold (D.state dumps.old).now (λ dump.
         lines.items ≡ placed_lines from (between from upto dump))) }
 {
@@ -38,8 +38,8 @@ fn hear_lines<D: Dumps>(
     });
     match hear_body(dumps, from, upto, &mut buffer, &mut sink) {
         Ok(()) => Ok(sink.0.lines),
-        Err(LinesFault::Read) => Err(TableFault::Read),
-        Err(LinesFault::Stopped(_)) => Err(TableFault::Memory),
+        Err(LinesFault::Read) => Err(ReadFault::Read),
+        Err(LinesFault::Stopped(_)) => Err(ReadFault::Memory),
     }
 }
 
@@ -69,12 +69,12 @@ impl LineTable {
         dumps: &mut D,
         from: u64,
         upto: u64,
-    ) -> Result<LineTable, TableFault>
+    ) -> Result<LineTable, ReadFault>
         requires open { IsOpen (D.state dumps.old).now }
         requires within { upto ≤ size_of (D.state dumps.old).now }
         requires ordered { from ≤ upto }
         ensures reads { ReadsAtMost (D.state dumps.old) (D.state dumps.new) (upto - from) }
-        ensures fault { IfErr result (IsTableCauseOf (D.state dumps.old) (D.state dumps.new)) }
+        ensures fault { IfErr result (IsReadCauseOf (D.state dumps.old) (D.state dumps.new)) }
         ensures table { IfOk result (λ table. IfTold (D.state dumps.old).now (λ dump.
             IsTableOf from (between from upto dump) table)) }
     {

@@ -1,20 +1,19 @@
 // The heap lines of a process and of the literals, which stay in the file.
 ghost use Rattle.std.specs.Prelude.{◌≡◌, ◌+◌, ◌≤◌, min, IfErr, IfOk};
 ghost use Rattle.dump_io.specs.Dumps.{Now, size_of, ReadsAtMost, IfTold};
+ghost use Rattle.dump_io.specs.Faults.{IsReadCauseOf};
 ghost use Rattle.dump_sections.specs.Bodies.{body_size, section_in, IsPlaceIn};
 ghost use Rattle.dump_sections.specs.Index.{IsBuiltOver, sections_in};
 ghost use Rattle.heap_cells.specs.Loading.{enc_of, heap_section, literals_section};
 ghost use Rattle.heap_parts.specs.Firsts.{IsLawful};
-ghost use Rattle.heap_lines.specs.Tables.{IsTableCauseOf};
 ghost use Rattle.heap_lines.specs.Wholes.{cells_in, is_known, HasLines, ServesLines};
 ghost use Rattle.heap_lines.specs.Inner.Bodies.{AreBodyLines, span_of};
 
-use crate::faults::TableFault;
 use crate::line_table::LineTable;
-use dump_io::Dumps;
+use dump_io::{Dumps, ReadFault};
 use dump_sections::Index;
 use heap_cells::enc_of;
-use heap_parts::{PartFault, WholeHeap, push_text};
+use heap_parts::{WholeHeap, push_text};
 use std::alloc::Global;
 use term_forms::Enc;
 use term_unfold::Addresses;
@@ -42,12 +41,12 @@ fn body_lines<D: Dumps>(
     dumps: &mut D,
     index: &Index,
     place: Option<usize>,
-) -> Result<BodyLines, TableFault>
+) -> Result<BodyLines, ReadFault>
     requires over { IsBuiltOver (D.state dumps.old).now index.now }
     requires place { IsPlaceIn index.now place }
     ensures reads { ReadsAtMost (D.state dumps.old) (D.state dumps.new)
         (body_size (section_in index.now place)) }
-    ensures fault { IfErr result (IsTableCauseOf (D.state dumps.old) (D.state dumps.new)) }
+    ensures fault { IfErr result (IsReadCauseOf (D.state dumps.old) (D.state dumps.new)) }
     ensures lines { IfOk result
         (AreBodyLines (D.state dumps.old).now (section_in index.now place)) }
 {
@@ -93,12 +92,12 @@ impl HeapLines {
         dumps: &mut D,
         index: &Index,
         pid: &[u8],
-    ) -> Result<HeapLines, TableFault>
+    ) -> Result<HeapLines, ReadFault>
         requires over { IsBuiltOver (D.state dumps.old).now index.now }
         ensures reads { ReadsAtMost (D.state dumps.old) (D.state dumps.new)
             (body_size (heap_section pid.now (sections_in index.now))
             + body_size (literals_section (sections_in index.now))) }
-        ensures fault { IfErr result (IsTableCauseOf (D.state dumps.old) (D.state dumps.new)) }
+        ensures fault { IfErr result (IsReadCauseOf (D.state dumps.old) (D.state dumps.new)) }
         ensures serves { IfOk result (λ lines. ServesLines lines (D.state dumps.old).now) }
         ensures enc { IfOk result (λ lines. lines.enc ≡ enc_of index.now.version) }
         ensures lines { IfOk result (λ lines. IfTold (D.state dumps.old).now (λ dump.
@@ -145,7 +144,7 @@ impl WholeHeap for HeapLines {
         addr: u64,
         limit: usize,
         lines: &mut Vec<u8>,
-    ) -> Result<(), PartFault> {
+    ) -> Result<(), ReadFault> {
         let (from, upto) = span(self, addr);
         push_text(dumps, from, upto, limit, lines)
     }

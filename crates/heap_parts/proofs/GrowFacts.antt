@@ -13,10 +13,11 @@ use Rattle.heap_cells.specs.Cells.{Cell, first_cells, line_cells, cells_of}
 use Rattle.term_unfold.specs.Parts.{IsPartOfHeap, IsEnoughOf, has_cell, asked, if_lacking, gap_at, gap_of, first_gap}
 use Rattle.term_unfold.specs.Trees.{Tree, pre}
 use Rattle.term_unfold.specs.Unfolding.{unfolding_of}
-use Rattle.heap_parts.specs.declared.faults.PartFault.{PartFault}
-use Rattle.heap_parts.specs.declared.faults.PartFault.TheVariants.{Read}
+use Rattle.dump_io.specs.Faults.{IsReadCauseOf}
+use Rattle.dump_io.specs.declared.faults.ReadFault.{ReadFault}
+use Rattle.dump_io.specs.declared.faults.ReadFault.TheVariants.{Read, Memory}
 use Rattle.heap_parts.specs.Inner.Growing.{Grows, FindsNoGap}
-use Rattle.heap_parts.specs.Firsts.{AreFirstLines, MayGrow, IsPushed, IsEnoughFor, IsLawful, IsPartCause, ReadsLines}
+use Rattle.heap_parts.specs.Firsts.{AreFirstLines, MayGrow, IsPushed, IsEnoughFor, IsLawful, ReadsLines}
 use Rattle.heap_parts.specs.Laws.Firsts.{firsts-part, firsts-more}
 use Rattle.heap_parts.proofs.CountFacts.{fewer-binaries}
 
@@ -62,9 +63,9 @@ pub reads-then : {has_lines : Now → List Cell → Type 0} {enc : Enc} {limit :
 reads-then one two = ReadsAtMost-both one.reads two (omega (arith, one.longer, one.room.few))
 
 -- a later cause is one from the beginning
-pub cause-then : (a b c : DeviceState) (fault : PartFault) → a.faults ≤ b.faults → IsPartCause b c fault → IsPartCause a c fault
-cause-then a b c Read later is = omega (arith, later, is)
-cause-then a b c fault later is = tt
+pub cause-then : (a b c : DeviceState) (fault : ReadFault) → a.faults ≤ b.faults → IsReadCauseOf b c fault → IsReadCauseOf a c fault
+cause-then a b c Read later is = (refl, omega (arith, later, is.1))
+cause-then a b c Memory later is = tt
 
 -- what may serve before a read may serve after it
 pub serves-then : {W : Type 0} (serves : W → Now → Type 0) (whole : W) {a b : DeviceState} {most : ℕ} → ReadsAtMost a b most → serves whole a.now → serves whole b.now

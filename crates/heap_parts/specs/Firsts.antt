@@ -1,15 +1,13 @@
 -- Which cells make a part of a larger heap: for an address, the first of the larger heap's lines.
 use Rattle.std.specs.Prelude.{◌≡◌, ℕ, ◌+◌, ◌-◌, ◌*◌, ◌==◌, ◌≤◌, Bool, List, [], ◌∷◌, ◌++◌, length, find, Contains, Option, Some}
 use Rattle.std.specs.Option.{option_to_list}
-use Rattle.dump_io.specs.Dumps.{DeviceState, DeviceFailed, ReadsAtMost}
+use Rattle.dump_io.specs.Dumps.{DeviceState, ReadsAtMost}
 use Rattle.dump_sections.specs.Index.{Contents}
 use Rattle.binary_payloads.specs.declared.enc.Enc.{Enc}
 use Rattle.body_lines.specs.Lines.{AreWhole}
 use Rattle.binary_refs.specs.Previews.{binaries}
 use Rattle.term_forms.specs.Elements.{Element}
 use Rattle.heap_cells.specs.Cells.{Cell, first_cells, line_cells}
-use Rattle.heap_parts.specs.declared.faults.PartFault.{PartFault}
-use Rattle.heap_parts.specs.declared.faults.PartFault.TheVariants.{Read}
 use Rattle.term_unfold.specs.Parts.{IsPartOfHeap, has_cell, answer_in}
 
 -- the first of these cells with an address
@@ -32,11 +30,6 @@ IsPushed enc all address old new = line_cells enc new ≡ line_cells enc old ++ 
 -- an address is known exactly if one of the cells has it
 pub record IsLawful (known : ℕ → Bool) (all : List Cell) : Type 0 where
   pub same : (a : ℕ) → known a ≡ has_cell (first_cells [] all) a
-
--- why lines aren't gathered: the device failed, or they are too many; memory may be lacking at any time
-abbrev pub IsPartCause : DeviceState → DeviceState → PartFault → Type 0
-IsPartCause before after Read = DeviceFailed before after
-IsPartCause before after fault = Unit {0}
 
 -- lines may be appended to a text: it ends with the end of a line, and is within a limit
 pub record MayGrow (limit : ℕ) (text : List ℕ) : Type 0 where

@@ -1,4 +1,3 @@
-pub mod Faults
 pub mod Firsts
 pub mod Inner
 pub mod Laws

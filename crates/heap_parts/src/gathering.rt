@@ -1,11 +1,11 @@
 // Gathering lines depth first.
 ghost use Rattle.std.specs.Prelude.{◌≡◌, ◌<◌, [], length, OnOk, IfErr};
+ghost use Rattle.dump_io.specs.Faults.{IsReadCauseOf};
 ghost use Rattle.heap_parts.specs.Inner.Growing.{Grows};
-ghost use Rattle.heap_parts.specs.Firsts.{MayGrow, IsPartCause, ReadsLines};
+ghost use Rattle.heap_parts.specs.Firsts.{MayGrow, ReadsLines};
 
-use crate::faults::PartFault;
 use crate::lines::WholeHeap;
-use dump_io::{Dumps, line_len, line_text};
+use dump_io::{Dumps, ReadFault, line_len, line_text};
 use std::alloc::{AllocError, Global};
 use std::collections::BTreeMap;
 use term_forms::reading::form;
@@ -62,11 +62,11 @@ fn add_line<W: WholeHeap, D: Dumps>(
     addr: u64,
     limit: usize,
     g: &mut Gathered,
-) -> Result<(), PartFault>
+) -> Result<(), ReadFault>
     requires over { W.serves whole.now (D.state dumps.old).now }
     requires room { MayGrow limit g.old.lines.items }
     ensures reads { ReadsLines (D.state dumps.old) (D.state dumps.new) limit g.old.lines.items }
-    ensures fault { IfErr result (IsPartCause (D.state dumps.old) (D.state dumps.new)) }
+    ensures fault { IfErr result (IsReadCauseOf (D.state dumps.old) (D.state dumps.new)) }
     ensures longer { OnOk result (length g.old.lines.items < length g.new.lines.items) }
     ensures grows { OnOk result (Grows (W.has_lines whole.now) (W.written whole.now) limit
         (D.state dumps.old) (D.state dumps.new) g.old.lines.items g.new.lines.items) }
@@ -84,11 +84,11 @@ fn place_of<W: WholeHeap, D: Dumps>(
     addr: u64,
     limit: usize,
     g: &mut Gathered,
-) -> Result<Option<usize>, PartFault>
+) -> Result<Option<usize>, ReadFault>
     requires over { W.serves whole.now (D.state dumps.old).now }
     requires room { MayGrow limit g.old.lines.items }
     ensures reads { ReadsLines (D.state dumps.old) (D.state dumps.new) limit g.old.lines.items }
-    ensures fault { IfErr result (IsPartCause (D.state dumps.old) (D.state dumps.new)) }
+    ensures fault { IfErr result (IsReadCauseOf (D.state dumps.old) (D.state dumps.new)) }
     ensures grows { OnOk result (Grows (W.has_lines whole.now) (W.written whole.now) limit
         (D.state dumps.old) (D.state dumps.new) g.old.lines.items g.new.lines.items) }
 {
@@ -239,11 +239,11 @@ fn visit_cell<W: WholeHeap, D: Dumps>(
     most: u32,
     g: &mut Gathered,
     visits: &mut Visits,
-) -> Result<(), PartFault>
+) -> Result<(), ReadFault>
     requires over { W.serves whole.now (D.state dumps.old).now }
     requires room { MayGrow limit g.old.lines.items }
     ensures reads { ReadsLines (D.state dumps.old) (D.state dumps.new) limit g.old.lines.items }
-    ensures fault { IfErr result (IsPartCause (D.state dumps.old) (D.state dumps.new)) }
+    ensures fault { IfErr result (IsReadCauseOf (D.state dumps.old) (D.state dumps.new)) }
     ensures grows { OnOk result (Grows (W.has_lines whole.now) (W.written whole.now) limit
         (D.state dumps.old) (D.state dumps.new) g.old.lines.items g.new.lines.items) }
 {
@@ -280,11 +280,11 @@ fn visit_next<W: WholeHeap, D: Dumps>(
     most: u32,
     g: &mut Gathered,
     visits: &mut Visits,
-) -> Result<(), PartFault>
+) -> Result<(), ReadFault>
     requires over { W.serves whole.now (D.state dumps.old).now }
     requires room { MayGrow limit g.old.lines.items }
     ensures reads { ReadsLines (D.state dumps.old) (D.state dumps.new) limit g.old.lines.items }
-    ensures fault { IfErr result (IsPartCause (D.state dumps.old) (D.state dumps.new)) }
+    ensures fault { IfErr result (IsReadCauseOf (D.state dumps.old) (D.state dumps.new)) }
     ensures grows { OnOk result (Grows (W.has_lines whole.now) (W.written whole.now) limit
         (D.state dumps.old) (D.state dumps.new) g.old.lines.items g.new.lines.items) }
 {
@@ -315,11 +315,11 @@ fn gather_all<W: WholeHeap, D: Dumps>(
     limit: usize,
     g: &mut Gathered,
     visits: &mut Visits,
-) -> Result<(), PartFault>
+) -> Result<(), ReadFault>
     requires over { W.serves whole.now (D.state dumps.old).now }
     requires room { MayGrow limit g.old.lines.items }
     ensures reads { ReadsLines (D.state dumps.old) (D.state dumps.new) limit g.old.lines.items }
-    ensures fault { IfErr result (IsPartCause (D.state dumps.old) (D.state dumps.new)) }
+    ensures fault { IfErr result (IsReadCauseOf (D.state dumps.old) (D.state dumps.new)) }
     ensures grows { OnOk result (Grows (W.has_lines whole.now) (W.written whole.now) limit
         (D.state dumps.old) (D.state dumps.new) g.old.lines.items g.new.lines.items) }
 {
@@ -343,11 +343,11 @@ pub(crate) fn gather_root<W: WholeHeap, D: Dumps>(
     most: u32,
     limit: usize,
     g: &mut Gathered,
-) -> Result<(), PartFault>
+) -> Result<(), ReadFault>
     requires over { W.serves whole.now (D.state dumps.old).now }
     requires room { MayGrow limit g.old.lines.items }
     ensures reads { ReadsLines (D.state dumps.old) (D.state dumps.new) limit g.old.lines.items }
-    ensures fault { IfErr result (IsPartCause (D.state dumps.old) (D.state dumps.new)) }
+    ensures fault { IfErr result (IsReadCauseOf (D.state dumps.old) (D.state dumps.new)) }
     ensures grows { OnOk result (Grows (W.has_lines whole.now) (W.written whole.now) limit
         (D.state dumps.old) (D.state dumps.new) g.old.lines.items g.new.lines.items) }
 {
@@ -368,11 +368,11 @@ pub(crate) fn gather_gap<W: WholeHeap, D: Dumps>(
     most: u32,
     limit: usize,
     g: &mut Gathered,
-) -> Result<(), PartFault>
+) -> Result<(), ReadFault>
     requires over { W.serves whole.now (D.state dumps.old).now }
     requires room { MayGrow limit g.old.lines.items }
     ensures reads { ReadsLines (D.state dumps.old) (D.state dumps.new) limit g.old.lines.items }
-    ensures fault { IfErr result (IsPartCause (D.state dumps.old) (D.state dumps.new)) }
+    ensures fault { IfErr result (IsReadCauseOf (D.state dumps.old) (D.state dumps.new)) }
     ensures longer { OnOk result (length g.old.lines.items < length g.new.lines.items) }
     ensures grows { OnOk result (Grows (W.has_lines whole.now) (W.written whole.now) limit
         (D.state dumps.old) (D.state dumps.new) g.old.lines.items g.new.lines.items) }

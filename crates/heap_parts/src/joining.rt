@@ -1,16 +1,16 @@
 // Loading a part of a heap that is enough for some roots.
 ghost use Rattle.std.specs.Prelude.{◌≡◌, [], List, ◌+◌, ◌*◌, ◌<◌, ◌≤◌, length, map, None, IfOk, IfErr, OnOk};
 ghost use Rattle.dump_io.specs.Dumps.{Now, ReadsAtMost};
+ghost use Rattle.dump_io.specs.Faults.{IsReadCauseOf};
 ghost use Rattle.heap_cells.specs.Cells.{Cell};
 ghost use Rattle.term_forms.specs.Seen.{element};
 ghost use Rattle.heap_cells.specs.Loading.{IsHeapAnswerFor};
-ghost use Rattle.heap_parts.specs.Inner.Growing.{Grows, FindsNoGap, IsOwnFault};
-ghost use Rattle.heap_parts.specs.Firsts.{MayGrow, IsEnoughFor, IsLawful, IsPartCause, ReadsLines};
+ghost use Rattle.heap_parts.specs.Inner.Growing.{Grows, FindsNoGap};
+ghost use Rattle.heap_parts.specs.Firsts.{MayGrow, IsEnoughFor, IsLawful, ReadsLines};
 
-use crate::faults::PartFault;
 use crate::gathering::{Gathered, gather_gap, gather_root};
 use crate::lines::WholeHeap;
-use dump_io::{Dumps, Limits};
+use dump_io::{Dumps, Limits, ReadFault};
 use heap_cells::Heap;
 use std::alloc::{AllocError, Global};
 use term_forms::Enc;
@@ -26,17 +26,19 @@ fn copy_of(alloc: Global, bytes: &[u8]) -> Result<Vec<u8>, AllocError>
     Ok(copy)
 }
 
-// The heap with these lines.
-fn heap_of(alloc: Global, lines: &[u8], enc: Enc, limits: &Limits) -> Result<Heap, PartFault>
+// The heap with these lines. One that is too dense counts as want of memory.
+fn heap_of(alloc: Global, lines: &[u8], enc: Enc, limits: &Limits) -> Result<Heap, ReadFault>
     requires { length lines.now ≤ limits.now.section }
     ensures heap { IfOk result (λ heap.
         IsHeapAnswerFor enc lines.now [] limits.now.dense (Ok heap)) }
     ensures enc { IfOk result (λ heap. heap.enc ≡ enc) }
-    ensures fault { IfErr result IsOwnFault }
+    ensures fault { IfErr result (λ fault. fault ≡ ReadFault.Memory) }
 {
     let copy = copy_of(alloc, lines)?;
-    let heap = Heap::of_lines(alloc, copy, enc, limits)?;
-    Ok(heap)
+    match Heap::of_lines(alloc, copy, enc, limits) {
+        Ok(heap) => Ok(heap),
+        Err(_) => Err(ReadFault::Memory),
+    }
 }
 
 // The first gap of the first root that has one.
@@ -73,11 +75,11 @@ fn gather_roots<W: WholeHeap, D: Dumps>(
     budget: u32,
     limit: usize,
     g: &mut Gathered,
-) -> Result<(), PartFault>
+) -> Result<(), ReadFault>
     requires over { W.serves whole.now (D.state dumps.old).now }
     requires room { MayGrow limit g.old.lines.items }
     ensures reads { ReadsLines (D.state dumps.old) (D.state dumps.new) limit g.old.lines.items }
-    ensures fault { IfErr result (IsPartCause (D.state dumps.old) (D.state dumps.new)) }
+    ensures fault { IfErr result (IsReadCauseOf (D.state dumps.old) (D.state dumps.new)) }
     ensures grows { OnOk result (Grows (W.has_lines whole.now) (W.written whole.now) limit
         (D.state dumps.old) (D.state dumps.new) g.old.lines.items g.new.lines.items) }
 {
@@ -93,9 +95,9 @@ fn gather_roots<W: WholeHeap, D: Dumps>(
 ///
 /// What a depth-first search from each root finds is gathered first. Mostly that is enough; walks over
 /// the part tell, and as long as one of them asks for a cell that only the whole heap has, what is below
-/// that cell is gathered too. Returns `TooLarge` or `TooDense` if the lines that were gathered are more
-/// than the limits, `Read` only if the device's count of faults rose, and `Memory` from any allocation.
-/// Whatever it returns, it reads at most 16 times the limit on a section's body, and 64 bytes.
+/// that cell is gathered too. Returns `Memory` if the lines that were gathered are more than the limits,
+/// and from any allocation, and `Read` only if the device's count of faults rose. Whatever it returns,
+/// it reads at most 16 times the limit on a section's body, and 64 bytes.
 pub fn load_part<W: WholeHeap, D: Dumps>(
     alloc: Global,
     whole: &W,
@@ -103,12 +105,12 @@ pub fn load_part<W: WholeHeap, D: Dumps>(
     roots: &[Elem<'_>],
     budget: u32,
     limits: &Limits,
-) -> Result<Heap, PartFault>
+) -> Result<Heap, ReadFault>
     requires over { W.serves whole.now (D.state dumps.old).now }
     requires budget { 0 < budget }
     ensures reads { ReadsAtMost (D.state dumps.old) (D.state dumps.new)
         (16 * (limits.now.section + 4)) }
-    ensures fault { IfErr result (IsPartCause (D.state dumps.old) (D.state dumps.new)) }
+    ensures fault { IfErr result (IsReadCauseOf (D.state dumps.old) (D.state dumps.new)) }
     ensures enough { IfOk result (λ heap. (all : List Cell)
         → W.has_lines whole.now (D.state dumps.old).now all
         → IsEnoughFor all heap.cells (map element roots.now) budget) }

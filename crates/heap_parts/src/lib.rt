@@ -6,14 +6,12 @@
 //! is the first with its address.
 #![tactic(auto)]
 
-mod faults;
 mod gathering;
 mod joining;
 mod laws;
 mod lines;
 mod reading;
 
-pub use faults::PartFault;
 pub use joining::load_part;
 pub use laws::one_line_is_one_cell;
 pub use lines::WholeHeap;

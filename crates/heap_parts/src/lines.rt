@@ -1,12 +1,12 @@
 // The lines of a heap that isn't loaded.
 ghost use Rattle.std.specs.Prelude.{◌≡◌, List, ◌-◌, ◌*◌, ◌<◌, length, OnOk, IfErr};
 ghost use Rattle.dump_io.specs.Dumps.{Now, ReadsAtMost};
+ghost use Rattle.dump_io.specs.Faults.{IsReadCauseOf};
 ghost use Rattle.binary_payloads.specs.declared.enc.Enc.{Enc};
 ghost use Rattle.heap_cells.specs.Cells.{Cell};
-ghost use Rattle.heap_parts.specs.Firsts.{MayGrow, IsLawful, IsPushed, IsPartCause, ReadsLines};
+ghost use Rattle.heap_parts.specs.Firsts.{MayGrow, IsLawful, IsPushed, ReadsLines};
 
-use crate::faults::PartFault;
-use dump_io::Dumps;
+use dump_io::{Dumps, ReadFault};
 use term_forms::Enc;
 use term_unfold::Addresses;
 
@@ -37,11 +37,11 @@ pub trait WholeHeap: Addresses {
         addr: u64,
         limit: usize,
         lines: &mut Vec<u8>,
-    ) -> Result<(), PartFault>
+    ) -> Result<(), ReadFault>
         requires over { serves self.now (D.state dumps.old).now }
         requires room { MayGrow limit lines.old.items }
         ensures reads { ReadsLines (D.state dumps.old) (D.state dumps.new) limit lines.old.items }
-        ensures fault { IfErr result (IsPartCause (D.state dumps.old) (D.state dumps.new)) }
+        ensures fault { IfErr result (IsReadCauseOf (D.state dumps.old) (D.state dumps.new)) }
         ensures spent { OnOk result (ReadsAtMost (D.state dumps.old) (D.state dumps.new)
             (16 * (length lines.new.items - length lines.old.items))) }
         ensures room { OnOk result (MayGrow limit lines.new.items) }

@@ -2,15 +2,13 @@
 ghost use Rattle.std.specs.Prelude.{◌≡◌, ◌+◌, ◌-◌, ◌*◌, ◌<◌, ◌≤◌, ◌++◌, length, take, drop, OnOk, OnErr, IfErr};
 ghost use Rattle.std.specs.List.{between};
 ghost use Rattle.dump_io.specs.Dumps.{size_of, IsOpen, DeviceFailed, ReadsAtMost, IfTold};
+ghost use Rattle.dump_io.specs.Faults.{IsReadCauseOf};
 ghost use Rattle.dump_io.specs.Lines.{text_of};
 ghost use Rattle.body_lines.specs.Lines.{AreWhole};
-ghost use Rattle.heap_parts.specs.Inner.Growing.{IsOwnFault};
-ghost use Rattle.heap_parts.specs.Firsts.{IsPartCause};
 ghost use Rattle.heap_parts.specs.Inner.Pieces.{IsCutAt};
 ghost use Rattle.heap_parts.specs.Places.{first_raw, ended_text};
 
-use crate::faults::PartFault;
-use dump_io::{Dumps, Failed, line_text, read_full};
+use dump_io::{Dumps, Failed, ReadFault, line_text, read_full};
 use memchr::memchr;
 
 // The first piece of a line. At least CR and LF are appended for a line, whatever the device
@@ -76,12 +74,12 @@ fn push_piece<D: Dumps>(
     count: usize,
     limit: usize,
     lines: &mut Vec<u8>,
-) -> Result<(), PartFault>
+) -> Result<(), ReadFault>
     requires open { IsOpen (D.state dumps.old).now }
     requires within { at + count ≤ size_of (D.state dumps.old).now }
     requires few { length lines.old.items + count ≤ limit }
     ensures reads { ReadsAtMost (D.state dumps.old) (D.state dumps.new) count }
-    ensures fault { IfErr result (IsPartCause (D.state dumps.old) (D.state dumps.new)) }
+    ensures fault { IfErr result (IsReadCauseOf (D.state dumps.old) (D.state dumps.new)) }
     ensures longer { OnOk result (length lines.new.items ≡ length lines.old.items + count) }
     ensures pushed { OnOk result (IfTold (D.state dumps.old).now (λ dump.
         lines.new.items ≡ lines.old.items ++ between at (at + count) dump)) }
@@ -89,20 +87,20 @@ fn push_piece<D: Dumps>(
     let from = lines.len();
     lines.resize(from + count, 0)?;
     let Ok(()) = fill_from(dumps, at, lines, from) else {
-        return Err(PartFault::Read);
+        return Err(ReadFault::Read);
     };
     Ok(())
 }
 
 // Appends bytes, unless there would be more than the limit.
-fn push_bytes(lines: &mut Vec<u8>, bytes: &[u8], limit: usize) -> Result<(), PartFault>
+fn push_bytes(lines: &mut Vec<u8>, bytes: &[u8], limit: usize) -> Result<(), ReadFault>
     requires { length lines.old.items ≤ limit }
-    ensures fault { IfErr result IsOwnFault }
+    ensures fault { IfErr result (λ fault. fault ≡ ReadFault.Memory) }
     ensures few { OnOk result (length lines.new.items ≤ limit) }
     ensures pushed { OnOk result (lines.new.items ≡ lines.old.items ++ bytes.now) }
 {
     if bytes.len() > limit - lines.len() {
-        return Err(PartFault::TooLarge);
+        return Err(ReadFault::Memory);
     }
     lines.extend_from_slice(bytes)?;
     Ok(())
@@ -116,14 +114,14 @@ fn push_raw<D: Dumps>(
     upto: u64,
     limit: usize,
     lines: &mut Vec<u8>,
-) -> Result<(), PartFault>
+) -> Result<(), ReadFault>
     requires open { IsOpen (D.state dumps.old).now }
     requires within { upto ≤ size_of (D.state dumps.old).now }
     requires ordered { from ≤ upto }
     requires few { length lines.old.items ≤ limit }
     ensures reads { ReadsAtMost (D.state dumps.old) (D.state dumps.new)
         (limit - length lines.old.items) }
-    ensures fault { IfErr result (IsPartCause (D.state dumps.old) (D.state dumps.new)) }
+    ensures fault { IfErr result (IsReadCauseOf (D.state dumps.old) (D.state dumps.new)) }
     ensures spent { OnOk result (ReadsAtMost (D.state dumps.old) (D.state dumps.new)
         (2 * (length lines.new.items - length lines.old.items) + 28)) }
     ensures few { OnOk result (length lines.new.items ≤ limit) }
@@ -136,7 +134,7 @@ fn push_raw<D: Dumps>(
     while at < upto {
         let kept = lines.len();
         if kept == limit {
-            return Err(PartFault::TooLarge);
+            return Err(ReadFault::Memory);
         }
         let count = piece_len(kept - start, upto - at, limit - kept);
         push_piece(dumps, at, count, limit, lines)?;
@@ -167,14 +165,14 @@ pub fn push_text<D: Dumps>(
     upto: u64,
     limit: usize,
     lines: &mut Vec<u8>,
-) -> Result<(), PartFault>
+) -> Result<(), ReadFault>
     requires open { IsOpen (D.state dumps.old).now }
     requires within { upto ≤ size_of (D.state dumps.old).now }
     requires ordered { from ≤ upto }
     requires few { length lines.old.items ≤ limit }
     ensures reads { ReadsAtMost (D.state dumps.old) (D.state dumps.new)
         (limit - length lines.old.items) }
-    ensures fault { IfErr result (IsPartCause (D.state dumps.old) (D.state dumps.new)) }
+    ensures fault { IfErr result (IsReadCauseOf (D.state dumps.old) (D.state dumps.new)) }
     ensures spent { OnOk result (ReadsAtMost (D.state dumps.old) (D.state dumps.new)
         (2 * (length lines.new.items - length lines.old.items) + 28)) }
     ensures few { OnOk result (length lines.new.items ≤ limit) }

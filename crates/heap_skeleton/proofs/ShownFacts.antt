@@ -6,13 +6,13 @@ use Rattle.std.specs.Option.{option_and_then, option_map}
 use Rattle.std.proofs.lemmas.Bool.{false_from_ne_true, eqb-true}
 use Rattle.std.proofs.lemmas.List.{append-nil, get_or-drop, get_or-take, length-map, length-take, map-append}
 use Rattle.std.proofs.lemmas.Option.{slice_get-get_or, slice_get-map}
-use Rattle.std.proofs.lemmas.List.Quantifiers.{position-Some}
 use Rattle.dump_io.specs.Laws.Lists.{position-map}
 use Rattle.cell_records.specs.declared.cells.Kind.{Kind}
 use Rattle.term_forms.specs.Elements.{Element, Ref}
 use Rattle.term_forms.specs.Forms as form
 use Rattle.heap_cells.specs.Cells.{Cell, elements_in, kind_of}
 use Rattle.heap_cells.specs.HeapMap.{form_at, number_at}
+use Rattle.heap_cells.specs.Laws.Cells.{number_at-within}
 use Rattle.heap_cells.specs.Targets.{target, target_at}
 use Rattle.heap_skeleton.specs.declared.held.CellPart.{CellPart}
 use Rattle.heap_skeleton.specs.declared.held.Held.{Held}
@@ -181,12 +181,9 @@ bin-number lines kinds n is inside =
     ∙ bin-form n (line_at lines n).cell.form
     ∙ ap (bin_in n) (sym (ap (λ (o : Option Cell). option_and_then (λ c. c.form) o) (cell-at lines n inside)))
 
-no_cell : Cell
-no_cell = record { address = 0; form = None }
-
 number-within : (lines : List HeapLine) (address n : ℕ) → number_at (cells_in lines) address ≡ Some n → n < length lines
 number-within lines address n is =
-    let within = (position-Some (λ (c : Cell). c.address == address) (cells_in lines) n no_cell is).0 in omega (arith, within, length-map lines (λ (l : HeapLine). l.cell))
+    let within = number_at-within (cells_in lines) address n is in omega (arith, within, length-map lines (λ (l : HeapLine). l.cell))
 
 led-bin : (lines : List HeapLine) (kinds : List (Option Kind)) (address : ℕ) → kinds ≡ map line_kind lines → led_to (addresses_in lines) kinds (lead.Binary address) ≡ bin_at (cells_in lines) address
 led-bin lines kinds address is = ap (option_and_then (bin_with kinds)) (line-number lines address) ∙ of (number_at (cells_in lines) address) refl

@@ -1,9 +1,10 @@
 -- The skeleton of a heap: what leads where in it, without its texts.
-use Rattle.std.specs.Prelude.{ℕ, ◌==◌, ◌++◌, List, [], ◌∷◌, map, Option, if◌then◌else◌}
+use Rattle.std.specs.Prelude.{ℕ, ◌==◌, ◌++◌, Bool, true, false, List, [], ◌∷◌, map, slice_index_or, Option, None, Some, if◌then◌else◌}
 use Rattle.std.specs.List.{list_any}
 use Rattle.std.specs.Option.{option_map}
 use Rattle.cell_graphs.specs.Graphs.{Graph, graph_of}
 use Rattle.cell_records.specs.declared.cells.Kind.{Kind}
+use Rattle.cell_records.specs.declared.cells.Kind.TheVariants as kind
 use Rattle.cell_words.specs.Words.{words_list}
 use Rattle.dump_sections.specs.Bodies.{body_in, body_start}
 use Rattle.dump_sections.specs.Index.{Contents, sections_in}
@@ -61,3 +62,12 @@ abbrev pub skeleton_for : List ℕ → Contents → List ℕ → SkeletonMap
 skeleton_for dump index pid =
     let sections = sections_in index in
     skeleton_in dump index (heap_section pid sections) (literals_section sections)
+
+-- whether a cell of this kind is a tuple
+abbrev pub is_tuple_kind : Option Kind → Bool
+is_tuple_kind (Some kind.Tuple) = true
+is_tuple_kind other = false
+
+-- whether the cell with a number is one
+abbrev pub is_tuple : SkeletonMap → ℕ → Bool
+is_tuple s cell = is_tuple_kind (slice_index_or s.kinds cell None)

@@ -4,13 +4,13 @@ ghost use Rattle.term_forms.specs.Seen.{element};
 ghost use Rattle.term_forms.specs.Places.{elements_of};
 ghost use Rattle.term_forms.specs.SeenForms.{heap_form};
 ghost use Rattle.term_forms.specs.ReadingForms.{form_of};
-ghost use Rattle.heap_cells.specs.Cells.{kind_of};
 ghost use Rattle.heap_skeleton.specs.Inner.Leads.{lead_of, leads_in, Pushes};
 ghost use Rattle.heap_skeleton.specs.Inner.Reading.{element_leads, read_of, read_with, spelled_leads, PushesRead};
 
 use crate::leads::{Lead, Leads};
 use cell_records::Kind;
 use cell_words::{kind_words, payload_words};
+use heap_cells::kind_of;
 use std::alloc::AllocError;
 use term_forms::shapes::{Elem, Form, Opened};
 use term_forms::{Enc, Joined, open_form};
@@ -20,26 +20,6 @@ use term_forms::{Enc, Joined, open_form};
 pub(crate) struct Read {
     pub kind: Option<Kind>,
     pub words: u64,
-}
-
-fn kind_of(form: &Form<'_>) -> Kind
-    ensures { result ≡ kind_of (heap_form form.now) }
-{
-    match form {
-        Form::List(_, _) => Kind::List,
-        Form::Tuple(_) => Kind::Tuple,
-        Form::Float(_) => Kind::Float,
-        Form::Long(_) => Kind::Long,
-        Form::Pid(_) => Kind::Pid,
-        Form::Port(_) => Kind::Port,
-        Form::Ext(_, _) => Kind::Ext,
-        Form::HeapBin(_, _) => Kind::HeapBin,
-        Form::RefBin(_, _, _) => Kind::RefBin,
-        Form::SubBin(_, _, _) => Kind::SubBin,
-        Form::Flat(_, _) => Kind::Flat,
-        Form::Hash(_, _) => Kind::Hash,
-        Form::Node(_) => Kind::Node,
-    }
 }
 
 fn lead_of(e: &Elem<'_>) -> Lead

@@ -1,5 +1,5 @@
 // Keeping the first of the heap lines with each address.
-ghost use Rattle.std.specs.Prelude.{◌≡◌, ◌<◌, ◌≤◌, ◌==◌, not, length, filter, slice_range, OnOk, IfOk};
+ghost use Rattle.std.specs.Prelude.{◌≡◌, ◌<◌, ◌≤◌, ◌==◌, not, length, filter, OnOk, IfOk};
 ghost use Rattle.cell_records.specs.Firsts.{AreFirsts};
 ghost use Rattle.heap_skeleton.specs.Inner.Held.{addresses_of, IsSmall};
 ghost use Rattle.heap_skeleton.specs.Inner.Keeping.{HoldsLines, AreMarksAt, KeepsLine, KeepsNext, IsKeeping, AreLeft, AreKept};
@@ -9,6 +9,7 @@ use crate::forms::Read;
 use crate::held::{Held, start_at};
 use crate::leads::NOWHERE;
 use crate::settling::Settled;
+use dump_io::items_between;
 use std::alloc::{AllocError, Global};
 
 // How many of the elements have an address.
@@ -16,14 +17,6 @@ fn count_references(marks: &[u32]) -> usize
     ensures { result ≡ length (filter (λ m. not (m == nowhere)) marks.now) }
 {
     marks.iter().filter(|mark| **mark != NOWHERE).count()
-}
-
-fn slice(marks: &[u32], from: usize, upto: usize) -> &[u32]
-    requires ordered { from ≤ upto }
-    requires within { upto ≤ length marks.now }
-    ensures { result.now ≡ slice_range marks.now from upto }
-{
-    &marks[from..upto]
 }
 
 // The marks of the elements of a cell.
@@ -35,7 +28,7 @@ fn marks_at(held: &Held, i: usize) -> &[u32]
     let total = held.leads.marks.len();
     let from = start_at(&held.parts, i, total);
     let upto = start_at(&held.parts, i + 1, total);
-    slice(&held.leads.marks, from, upto)
+    items_between(&held.leads.marks, from, upto)
 }
 
 // Appends a cell of other heap lines, whose elements have these addresses.

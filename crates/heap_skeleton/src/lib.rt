@@ -16,7 +16,6 @@
 //! ```
 #![tactic(auto)]
 
-mod faults;
 mod forms;
 mod gathering;
 mod heap_sink;
@@ -29,5 +28,4 @@ mod settling;
 mod skeleton;
 
 pub use cell_records::Kind;
-pub use faults::SkeletonFault;
 pub use skeleton::Skeleton;

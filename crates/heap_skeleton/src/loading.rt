@@ -1,18 +1,17 @@
 // Reading the lines of a heap.
 ghost use Rattle.std.specs.Prelude.{◌+◌, OnOk, IfOk, IfErr};
 ghost use Rattle.dump_io.specs.Dumps.{ReadsAtMost};
+ghost use Rattle.dump_io.specs.Faults.{IsReadCauseOf};
 ghost use Rattle.dump_sections.specs.Bodies.{body_size, section_in, IsPlaceIn};
 ghost use Rattle.dump_sections.specs.Index.{IsBuiltOver};
 ghost use Rattle.heap_cells.specs.Loading.{enc_of};
-ghost use Rattle.heap_skeleton.specs.Loading.{IsSkeletonCauseOf};
 ghost use Rattle.heap_skeleton.specs.Inner.Held.{IsSmall};
 ghost use Rattle.heap_skeleton.specs.Inner.Hearing.{HearsSection, HoldsSections};
 
-use crate::faults::SkeletonFault;
 use crate::heap_sink::HeapSink;
 use crate::held::Held;
 use body_lines::{WholeLinesFault, hear_whole_lines};
-use dump_io::Dumps;
+use dump_io::{Dumps, ReadFault};
 use dump_sections::Index;
 use heap_cells::enc_of;
 use std::alloc::Global;
@@ -24,13 +23,13 @@ fn hear_section<D: Dumps>(
     place: Option<usize>,
     buffer: &mut Vec<u8>,
     sink: &mut HeapSink,
-) -> Result<(), SkeletonFault>
+) -> Result<(), ReadFault>
     requires over { IsBuiltOver (D.state dumps.old).now index.now }
     requires place { IsPlaceIn index.now place }
     requires small { IsSmall sink.old.held }
     ensures reads { ReadsAtMost (D.state dumps.old) (D.state dumps.new)
         (body_size (section_in index.now place)) }
-    ensures fault { IfErr result (IsSkeletonCauseOf (D.state dumps.old) (D.state dumps.new)) }
+    ensures fault { IfErr result (IsReadCauseOf (D.state dumps.old) (D.state dumps.new)) }
     ensures small { OnOk result (IsSmall sink.new.held) }
     ensures hears { OnOk result (HearsSection sink.old sink.new
         (D.state dumps.old).now (section_in index.now place)) }
@@ -38,9 +37,9 @@ fn hear_section<D: Dumps>(
     let (from, upto) = index.body_at(place);
     match hear_whole_lines(dumps, from, upto, buffer, sink) {
         Ok(()) => Ok(()),
-        Err(WholeLinesFault::Read) => Err(SkeletonFault::Read),
-        Err(WholeLinesFault::Memory) => Err(SkeletonFault::Memory),
-        Err(WholeLinesFault::Stopped(_)) => Err(SkeletonFault::Memory),
+        Err(WholeLinesFault::Read) => Err(ReadFault::Read),
+        Err(WholeLinesFault::Memory) => Err(ReadFault::Memory),
+        Err(WholeLinesFault::Stopped(_)) => Err(ReadFault::Memory),
     }
 }
 
@@ -51,13 +50,13 @@ pub(crate) fn read_lines<D: Dumps>(
     index: &Index,
     heap: Option<usize>,
     literals: Option<usize>,
-) -> Result<(Held, u32), SkeletonFault>
+) -> Result<(Held, u32), ReadFault>
     requires over { IsBuiltOver (D.state dumps.old).now index.now }
     requires heap { IsPlaceIn index.now heap }
     requires literals { IsPlaceIn index.now literals }
     ensures reads { ReadsAtMost (D.state dumps.old) (D.state dumps.new)
         (body_size (section_in index.now heap) + body_size (section_in index.now literals)) }
-    ensures fault { IfErr result (IsSkeletonCauseOf (D.state dumps.old) (D.state dumps.new)) }
+    ensures fault { IfErr result (IsReadCauseOf (D.state dumps.old) (D.state dumps.new)) }
     ensures small { IfOk result (λ found. IsSmall found.0) }
     ensures holds { IfOk result (λ found. HoldsSections (enc_of index.now.version)
         (D.state dumps.old).now (section_in index.now heap) (section_in index.now literals)

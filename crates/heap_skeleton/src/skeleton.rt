@@ -3,18 +3,17 @@ ghost use Rattle.std.specs.Prelude.{◌≡◌, ◌<◌, ◌≤◌, ◌^◌, List
 ghost use Rattle.cell_graphs.specs.Graphs.{LeadsWithin};
 ghost use Rattle.cell_records.specs.Order.{AreAllFirst, AreRanked};
 ghost use Rattle.dump_io.specs.Dumps.{ReadsAtMost, IfTold};
+ghost use Rattle.dump_io.specs.Faults.{IsReadCauseOf};
 ghost use Rattle.dump_sections.specs.Index.{IsBuiltOver, sections_in};
 ghost use Rattle.dump_sections.specs.Loading.{bodies_length};
 ghost use Rattle.heap_cells.specs.Loading.{heap_bodies};
-ghost use Rattle.heap_skeleton.specs.Loading.{IsSkeletonCauseOf};
-ghost use Rattle.heap_skeleton.specs.Skeletons.{skeleton_for};
+ghost use Rattle.heap_skeleton.specs.Skeletons.{is_tuple, skeleton_for};
 ghost use Rattle.heap_skeleton.specs.Inner.Held.{HeapLine, addresses_of, IsHeld, IsSmall};
 ghost use Rattle.heap_skeleton.specs.Inner.Keeping.{HoldsLines};
 ghost use Rattle.heap_skeleton.specs.Inner.Leads.{cell_for};
 ghost use Rattle.heap_skeleton.specs.Inner.Resolving.{AreResolved};
 ghost use Rattle.heap_skeleton.specs.Inner.Shown.{skeleton_with, AreLaid, IsSpanOf};
 
-use crate::faults::SkeletonFault;
 use crate::held::{CellPart, Held, start_at};
 use crate::leads::{Leads, NOWHERE};
 use crate::loading::read_lines;
@@ -24,7 +23,7 @@ use cell_graphs::CellGraph;
 use cell_parts::Kinded;
 use cell_records::{Kind, Ranks, number_of};
 use cell_words::Weighed;
-use dump_io::Dumps;
+use dump_io::{Dumps, ReadFault};
 use dump_sections::Index;
 use std::alloc::{AllocError, Global};
 use std::marker::Model;
@@ -144,11 +143,11 @@ impl Skeleton {
         dumps: &mut D,
         index: &Index,
         pid: &[u8],
-    ) -> Result<Skeleton, SkeletonFault>
+    ) -> Result<Skeleton, ReadFault>
         requires { IsBuiltOver (D.state dumps.old).now index.now }
         ensures reads { ReadsAtMost (D.state dumps.old) (D.state dumps.new)
             (bodies_length (heap_bodies pid.now (sections_in index.now))) }
-        ensures fault { IfErr result (IsSkeletonCauseOf (D.state dumps.old) (D.state dumps.new)) }
+        ensures fault { IfErr result (IsReadCauseOf (D.state dumps.old) (D.state dumps.new)) }
         ensures skeleton { IfOk result (λ s. IfTold (D.state dumps.old).now
             (λ dump. s ≡ skeleton_for dump index.now pid.now)) }
         ensures cells { IfOk result (λ s. length s.leads ≡ length s.addresses) }
@@ -206,6 +205,15 @@ impl Skeleton {
         ensures { slice_get self.now.kinds cell ≡ Some result }
     {
         self.kinds[cell as usize]
+    }
+
+    /// Whether a cell is a tuple.
+    pub fn is_tuple(&self, cell: u32) -> bool
+        requires { cell < length self.now.leads }
+        ensures { result ≡ is_tuple self.now cell }
+    {
+        self.leads_are_cells();
+        matches!(self.kind(cell), Some(Kind::Tuple))
     }
 }
 

@@ -7,8 +7,8 @@ use Rattle.std.proofs.lemmas.List.Concat.{flat_map-append}
 use Rattle.std.proofs.lemmas.List.Elements.{All-append, All-cons, All-head, All-nil, All-tail}
 use Rattle.dump_io.specs.Laws.Lists.{take-at}
 use Rattle.cell_graphs.specs.Graphs.{LeadsWithin, places_at}
-use Rattle.heap_skeleton.specs.Skeletons.{SkeletonMap}
-use Rattle.message_shapes.specs.Inner.Tuples.{is_tuple, lead_tuple, needed, needed_at, tuple_or_none}
+use Rattle.heap_skeleton.specs.Skeletons.{SkeletonMap, is_tuple}
+use Rattle.message_shapes.specs.Inner.Tuples.{lead_tuple, needed, needed_at, tuple_or_none}
 use Rattle.message_shapes.specs.Inner.Telling.{origin_cells, told_cells, AreCells, IsCell, IsOriginWithin, Origin, OfCell, OfText, Told}
 
 -- what comes of the next of a list behind what came of those before

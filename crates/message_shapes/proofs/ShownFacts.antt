@@ -15,7 +15,7 @@ use Rattle.heap_cells.specs.HeapMap.{HeapMap, form_at, number_at}
 use Rattle.heap_cells.specs.Targets.{target, target_at}
 use Rattle.dump_sections.specs.Index.{Contents, sections_in}
 use Rattle.heap_cells.specs.Loading.{heap_section, literals_section}
-use Rattle.heap_skeleton.specs.Skeletons.{SkeletonMap, heap_in, lines_in, skeleton_for, skeleton_of}
+use Rattle.heap_skeleton.specs.Skeletons.{SkeletonMap, heap_in, is_tuple, is_tuple_kind, lines_in, skeleton_for, skeleton_of}
 use Rattle.root_views.specs.Roots.{BodyRoot, Content, Term, Info, Dist, Unread, is_message}
 use Rattle.term_forms.specs.Elements.{Element, Ref}
 use Rattle.term_forms.specs.Forms.{HeapForm, Tuple}
@@ -25,7 +25,7 @@ use Rattle.message_shapes.specs.Shapes.{comma_list, element_shape, form_shape, m
 use Rattle.message_shapes.specs.Inner.CellTexts.{comma_behind, element_text, inner_text, kind_text, subject_text, tuple_with}
 use Rattle.message_shapes.specs.Inner.Shaped.{messages_with, shape_with}
 use Rattle.message_shapes.specs.Inner.Telling.{cell_with, content_origin, origin_cells, root_told, roots_told, told_cells, OfCell, OfText, Told}
-use Rattle.message_shapes.specs.Inner.Tuples.{TupleMap, front_at, is_tuple, is_tuple_kind, lead_tuple, needed, needed_at, place_of}
+use Rattle.message_shapes.specs.Inner.Tuples.{TupleMap, front_at, lead_tuple, needed, needed_at, place_of}
 use Rattle.message_shapes.proofs.CommaFacts.{comma-last, tags-count}
 use Rattle.message_shapes.proofs.SetFacts.{found-place}
 

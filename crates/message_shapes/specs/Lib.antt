@@ -1,4 +1,3 @@
 pub mod Inner
-pub mod Loading
 pub mod Messages
 pub mod Shapes

@@ -6,7 +6,6 @@ ghost use Rattle.message_shapes.specs.Inner.CellTexts.{element_text, element_tex
 ghost use Rattle.message_shapes.specs.Inner.Tuples.{front_at};
 
 use crate::cell_set::CellSet;
-use crate::needed::is_tuple;
 use crate::texts::Texts;
 use crate::tuples::Tuples;
 use crate::words::{kind_word, push_comma, push_end, push_plain, push_tag};
@@ -76,7 +75,7 @@ fn push_inner(
     requires { cell < length skeleton.now.leads }
     ensures { OnOk result (text.new.items ≡ text.old.items ++ inner_text skeleton.now tuples.now cell) }
 {
-    if is_tuple(skeleton, cell) {
+    if skeleton.is_tuple(cell) {
         push_inner_tuple(alloc, text, skeleton, tuples, cell)
     } else {
         text.extend_from_slice(kind_word(Kinded::kind(skeleton, cell)))
@@ -148,7 +147,7 @@ fn push_subject(
     requires { cell < length skeleton.now.leads }
     ensures { OnOk result (text.new.items ≡ text.old.items ++ subject_text skeleton.now tuples.now cell) }
 {
-    if is_tuple(skeleton, cell) {
+    if skeleton.is_tuple(cell) {
         push_subject_tuple(alloc, text, skeleton, tuples, cell)
     } else {
         text.extend_from_slice(kind_word(Kinded::kind(skeleton, cell)))

@@ -2,10 +2,10 @@
 ghost use Rattle.std.specs.Prelude.{◌≡◌, ◌++◌, [], ◌∷◌, length, codes, IfErr, IfOk, OnOk};
 ghost use Rattle.std.specs.Str.{bytes_eq};
 ghost use Rattle.dump_io.specs.Dumps.{IfTold, ReadsAtMost};
+ghost use Rattle.dump_io.specs.Faults.{IsReadCauseOf};
 ghost use Rattle.dump_sections.specs.Bodies.{body_size, section_in, IsPlaceIn};
 ghost use Rattle.dump_sections.specs.Index.{sections_in, IsBuiltOver};
 ghost use Rattle.term_forms.specs.Seen.{element};
-ghost use Rattle.root_lines.specs.Shown.{IsRootsCauseOf};
 ghost use Rattle.root_views.specs.Seen.{content};
 ghost use Rattle.root_views.specs.Sections.{root_section};
 ghost use Rattle.root_views.specs.declared.kinds.RootKind.TheVariants.{Mail};
@@ -15,10 +15,10 @@ ghost use Rattle.message_shapes.specs.Inner.Telling.{content_origin, element_ori
 
 use crate::heard::Heard;
 use crate::words::push_plain;
-use dump_io::Dumps;
+use dump_io::{Dumps, ReadFault};
 use dump_sections::Index;
 use heap_skeleton::Skeleton;
-use root_lines::{EachRoot, RootsFault, hear_roots};
+use root_lines::{EachRoot, hear_roots};
 use root_views::{Root, RootKind, What};
 use std::alloc::{AllocError, Global};
 use term_forms::shapes::Elem;
@@ -115,13 +115,13 @@ fn hear_section<D: Dumps>(
     place: Option<usize>,
     buffer: &mut Vec<u8>,
     sink: &mut MailSink<'_>,
-) -> Result<(), RootsFault>
+) -> Result<(), ReadFault>
     requires over { IsBuiltOver (D.state dumps.old).now index.now }
     requires place { IsPlaceIn index.now place }
     requires ready { IsReady sink.old }
     ensures reads { ReadsAtMost (D.state dumps.old) (D.state dumps.new)
         (body_size (section_in index.now place)) }
-    ensures fault { IfErr result (IsRootsCauseOf (D.state dumps.old) (D.state dumps.new)) }
+    ensures fault { IfErr result (IsReadCauseOf (D.state dumps.old) (D.state dumps.new)) }
     ensures ready { OnOk result (IsReady sink.new) }
     ensures tells { OnOk result (TellsSection (D.state dumps.old).now
         (section_in index.now place) sink.old sink.new) }
@@ -138,11 +138,11 @@ pub(crate) fn hear_mail<D: Dumps>(
     index: &Index,
     pid: &[u8],
     skeleton: &Skeleton,
-) -> Result<Heard, RootsFault>
+) -> Result<Heard, ReadFault>
     requires { IsBuiltOver (D.state dumps.old).now index.now }
     ensures reads { ReadsAtMost (D.state dumps.old) (D.state dumps.new)
         (body_size (root_section Mail pid.now (sections_in index.now))) }
-    ensures fault { IfErr result (IsRootsCauseOf (D.state dumps.old) (D.state dumps.new)) }
+    ensures fault { IfErr result (IsReadCauseOf (D.state dumps.old) (D.state dumps.new)) }
     ensures cells { IfOk result (AreCells (length skeleton.now.leads)) }
     ensures heard { IfOk result (λ heard. IfTold (D.state dumps.old).now (λ dump.
         heard ≡ roots_told skeleton.now.addresses (mail_roots dump index.now pid.now))) }

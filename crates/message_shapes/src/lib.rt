@@ -20,7 +20,6 @@
 mod cell_set;
 mod cell_texts;
 mod distinct_texts;
-mod faults;
 mod heard;
 mod hearing;
 mod messages;
@@ -30,5 +29,4 @@ mod texts;
 mod tuples;
 mod words;
 
-pub use faults::ShapesFault;
 pub use shapes::MailShapes;

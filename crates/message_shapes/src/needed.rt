@@ -3,23 +3,14 @@ ghost use Rattle.std.specs.Prelude.{◌≡◌, ℕ, ◌<◌, ◌++◌, All, Cont
 ghost use Rattle.std.specs.List.Sorted.{IsStrictlyIncreasing};
 ghost use Rattle.cell_graphs.specs.Graphs.{places_at, LeadsWithin};
 ghost use Rattle.message_shapes.specs.Inner.Telling.{AreCells, told_cells};
-ghost use Rattle.message_shapes.specs.Inner.Tuples.{is_tuple, lead_tuple, needed, needed_at};
+ghost use Rattle.message_shapes.specs.Inner.Tuples.{lead_tuple, needed, needed_at};
 
 use crate::cell_set::CellSet;
 use crate::heard::{Heard, Source};
 use cell_graphs::CellGraph;
-use cell_parts::Kinded;
-use heap_skeleton::{Kind, Skeleton};
+use heap_skeleton::Skeleton;
 use std::alloc::{AllocError, Global};
 use tuple_fronts::MOST_ELEMENTS;
-
-// Whether a cell is a tuple.
-pub(crate) fn is_tuple(skeleton: &Skeleton, cell: u32) -> bool
-    requires { cell < length skeleton.now.leads }
-    ensures { result ≡ is_tuple skeleton.now cell }
-{
-    matches!(Kinded::kind(skeleton, cell), Some(Kind::Tuple))
-}
 
 // Appends the cell to which a place leads, if it is a tuple.
 fn add_lead(skeleton: &Skeleton, cells: &mut Vec<u32>, lead: Option<u32>) -> Result<(), AllocError>
@@ -27,7 +18,7 @@ fn add_lead(skeleton: &Skeleton, cells: &mut Vec<u32>, lead: Option<u32>) -> Res
     ensures { OnOk result (cells.new.items ≡ cells.old.items ++ lead_tuple skeleton.now lead) }
 {
     if let Some(cell) = lead {
-        if is_tuple(skeleton, cell) {
+        if skeleton.is_tuple(cell) {
             cells.push(cell)?;
         }
     }
@@ -53,7 +44,7 @@ fn add_needed(skeleton: &Skeleton, cells: &mut Vec<u32>, cell: u32) -> Result<()
     requires within { LeadsWithin skeleton.now.leads }
     ensures { OnOk result (cells.new.items ≡ cells.old.items ++ needed_at skeleton.now cell) }
 {
-    if !is_tuple(skeleton, cell) {
+    if !skeleton.is_tuple(cell) {
         return Ok(());
     }
     cells.push(cell)?;

@@ -1,6 +1,7 @@
 // The shapes of the messages in a mailbox.
 ghost use Rattle.std.specs.Prelude.{◌≡◌, ◌*◌, ◌+◌, ◌<◌, All, length, IfErr, IfOk};
 ghost use Rattle.dump_io.specs.Dumps.{IfTold, ReadsAtMost};
+ghost use Rattle.dump_io.specs.Faults.{IsReadCauseOf};
 ghost use Rattle.dump_sections.specs.Bodies.{body_size};
 ghost use Rattle.dump_sections.specs.Index.{sections_in, IsBuiltOver};
 ghost use Rattle.dump_sections.specs.Loading.{bodies_length};
@@ -8,18 +9,16 @@ ghost use Rattle.heap_cells.specs.Loading.{heap_bodies};
 ghost use Rattle.heap_skeleton.specs.Skeletons.{skeleton_for};
 ghost use Rattle.root_views.specs.Sections.{root_section};
 ghost use Rattle.root_views.specs.declared.kinds.RootKind.TheVariants.{Mail};
-ghost use Rattle.message_shapes.specs.Loading.{IsShapesCauseOf};
 ghost use Rattle.message_shapes.specs.Messages.{mail_cells, mail_roots, mail_shapes, message_at, messages_of, shape_groups};
 ghost use Rattle.message_shapes.specs.Inner.Telling.{roots_told, AreCells};
 
 use crate::cell_texts::subject_texts;
-use crate::faults::ShapesFault;
 use crate::heard::Heard;
 use crate::hearing::hear_mail;
 use crate::messages::Messages;
 use crate::needed::{needed_cells, subject_cells};
 use crate::tuples::Tuples;
-use dump_io::Dumps;
+use dump_io::{Dumps, ReadFault};
 use dump_sections::Index;
 use heap_skeleton::Skeleton;
 use size_order::sort_most_first;
@@ -54,7 +53,7 @@ fn shape_messages<D: Dumps>(
     pid: &[u8],
     skeleton: &Skeleton,
     heard: Heard,
-) -> Result<Messages, ShapesFault>
+) -> Result<Messages, ReadFault>
     requires over { IsBuiltOver (D.state dumps.old).now index.now }
     requires cells { AreCells (length skeleton.now.leads) heard }
     requires skeleton { IfTold (D.state dumps.old).now
@@ -63,7 +62,7 @@ fn shape_messages<D: Dumps>(
         heard ≡ roots_told skeleton.now.addresses (mail_roots dump index.now pid.now)) }
     ensures reads { ReadsAtMost (D.state dumps.old) (D.state dumps.new)
         (bodies_length (heap_bodies pid.now (sections_in index.now))) }
-    ensures fault { IfErr result (IsShapesCauseOf (D.state dumps.old) (D.state dumps.new)) }
+    ensures fault { IfErr result (IsReadCauseOf (D.state dumps.old) (D.state dumps.new)) }
     ensures messages { IfOk result (λ messages. IfTold (D.state dumps.old).now (λ dump.
         messages ≡ messages_of (mail_cells dump index.now pid.now) (mail_roots dump index.now pid.now))) }
 {
@@ -102,12 +101,12 @@ impl MailShapes {
         dumps: &mut D,
         index: &Index,
         pid: &[u8],
-    ) -> Result<MailShapes, ShapesFault>
+    ) -> Result<MailShapes, ReadFault>
         requires { IsBuiltOver (D.state dumps.old).now index.now }
         ensures reads { let sections = sections_in index.now in
             ReadsAtMost (D.state dumps.old) (D.state dumps.new)
             (body_size (root_section Mail pid.now sections) + 2 * bodies_length (heap_bodies pid.now sections)) }
-        ensures fault { IfErr result (IsShapesCauseOf (D.state dumps.old) (D.state dumps.new)) }
+        ensures fault { IfErr result (IsReadCauseOf (D.state dumps.old) (D.state dumps.new)) }
         ensures shapes { IfOk result (λ shapes. IfTold (D.state dumps.old).now
             (λ dump. shapes ≡ mail_shapes dump index.now pid.now)) }
     {

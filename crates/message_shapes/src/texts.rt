@@ -1,7 +1,8 @@
 // Texts in one pool.
-ghost use Rattle.std.specs.Prelude.{◌≡◌, ◌<◌, ◌≤◌, ◌++◌, [], ◌∷◌, length, slice_get, slice_range, Some, IfOk, if◌then◌else◌};
+ghost use Rattle.std.specs.Prelude.{◌≡◌, ◌<◌, ◌++◌, [], ◌∷◌, length, slice_get, Some, IfOk, if◌then◌else◌};
 ghost use Rattle.std.specs.Result.{is_ok};
 
+use dump_io::items_between;
 use std::alloc::{AllocError, Global};
 use std::marker::Model;
 
@@ -40,15 +41,6 @@ fn small(size: usize) -> Result<u32, AllocError>
     }
 }
 
-// The part of the pool between two places.
-fn part_of(pool: &[u8], from: usize, upto: usize) -> &[u8]
-    requires ordered { from ≤ upto }
-    requires within { upto ≤ length pool.now }
-    ensures { result.now ≡ slice_range pool.now from upto }
-{
-    &pool[from..upto]
-}
-
 impl Texts {
     /// No texts.
     pub(crate) fn new(alloc: Global) -> Texts
@@ -85,6 +77,6 @@ impl Texts {
         ensures { slice_get self.now i ≡ Some result.now }
     {
         let span = self.spans[i];
-        part_of(&self.pool, span.from as usize, span.upto as usize)
+        items_between(&self.pool, span.from as usize, span.upto as usize)
     }
 }

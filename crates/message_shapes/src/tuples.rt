@@ -1,6 +1,7 @@
 // The tuples whose first elements are known.
 ghost use Rattle.std.specs.Prelude.{◌≡◌, ◌<◌, All, length, slice_get, Some, IfErr, IfOk};
 ghost use Rattle.dump_io.specs.Dumps.{IfTold, ReadsAtMost};
+ghost use Rattle.dump_io.specs.Faults.{IsReadCauseOf};
 ghost use Rattle.dump_sections.specs.Index.{IsBuiltOver, sections_in};
 ghost use Rattle.dump_sections.specs.Loading.{bodies_length};
 ghost use Rattle.heap_cells.specs.Loading.{heap_bodies};
@@ -8,11 +9,9 @@ ghost use Rattle.heap_skeleton.specs.Skeletons.{skeleton_for};
 ghost use Rattle.term_forms.specs.Seen.{element};
 ghost use Rattle.tuple_fronts.specs.Fronts.{fronts_for};
 ghost use Rattle.message_shapes.specs.Inner.Tuples.{front_at};
-ghost use Rattle.message_shapes.specs.Loading.{IsShapesCauseOf};
 
 use crate::cell_set::CellSet;
-use crate::faults::ShapesFault;
-use dump_io::Dumps;
+use dump_io::{Dumps, ReadFault};
 use dump_sections::Index;
 use heap_skeleton::Skeleton;
 use std::alloc::Global;
@@ -47,14 +46,14 @@ impl Tuples {
         pid: &[u8],
         skeleton: &Skeleton,
         cells: CellSet,
-    ) -> Result<Tuples, ShapesFault>
+    ) -> Result<Tuples, ReadFault>
         requires over { IsBuiltOver (D.state dumps.old).now index.now }
         requires cells { All (λ n. n < length skeleton.now.leads) cells }
         requires skeleton { IfTold (D.state dumps.old).now
             (λ dump. skeleton.now ≡ skeleton_for dump index.now pid.now) }
         ensures reads { ReadsAtMost (D.state dumps.old) (D.state dumps.new)
             (bodies_length (heap_bodies pid.now (sections_in index.now))) }
-        ensures fault { IfErr result (IsShapesCauseOf (D.state dumps.old) (D.state dumps.new)) }
+        ensures fault { IfErr result (IsReadCauseOf (D.state dumps.old) (D.state dumps.new)) }
         ensures cells { IfOk result (λ tuples. tuples.cells ≡ cells) }
         ensures fronts { IfOk result (λ tuples. IfTold (D.state dumps.old).now
             (λ dump. tuples.fronts ≡ fronts_for dump index.now pid.now cells)) }

@@ -15,12 +15,10 @@
 //! ```
 #![tactic(auto)]
 
-mod faults;
 mod held_parts;
 mod part_rows;
 mod root_parts;
 mod weights;
 
-pub use faults::WeightsFault;
 pub use part_rows::PartRow;
 pub use weights::Weights;

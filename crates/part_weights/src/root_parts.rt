@@ -1,24 +1,22 @@
 // The parts that the roots of a process make.
 ghost use Rattle.std.specs.Prelude.{◌≡◌, ◌<◌, length, IfErr, IfOk, IfSome, OnOk};
 ghost use Rattle.dump_io.specs.Dumps.{IfTold, ReadsAtMost};
+ghost use Rattle.dump_io.specs.Faults.{IsReadCauseOf};
 ghost use Rattle.dump_sections.specs.Bodies.{body_size, section_in, IsPlaceIn};
 ghost use Rattle.dump_sections.specs.Index.{sections_in, IsBuiltOver};
 ghost use Rattle.dump_sections.specs.Loading.{bodies_length};
 ghost use Rattle.term_forms.specs.Seen.{element};
-ghost use Rattle.root_lines.specs.Shown.{IsRootsCauseOf};
 ghost use Rattle.root_views.specs.Sections.{root_bodies, root_section};
 ghost use Rattle.cell_parts.specs.Parts.{ArePartsOf};
-ghost use Rattle.part_weights.specs.Loading.{IsWeightsCauseOf};
 ghost use Rattle.part_weights.specs.Roots.{all_roots, lead_to, roots_elements};
 ghost use Rattle.part_weights.specs.Inner.Hearing.{Gains, GainsAll, GainsSection, IsReady};
 ghost use Rattle.part_weights.specs.Inner.Shown.{IsOver};
 
-use crate::faults::WeightsFault;
 use cell_parts::Parts;
-use dump_io::Dumps;
+use dump_io::{Dumps, ReadFault};
 use dump_sections::Index;
 use heap_skeleton::Skeleton;
-use root_lines::{EachRoot, RootsFault, hear_roots};
+use root_lines::{EachRoot, hear_roots};
 use root_views::{Root, RootKind, What};
 use std::alloc::{AllocError, Global};
 use term_forms::shapes::Elem;
@@ -63,13 +61,13 @@ fn hear_section<D: Dumps>(
     kind: RootKind,
     buffer: &mut Vec<u8>,
     roots: &mut RootParts<'_>,
-) -> Result<(), RootsFault>
+) -> Result<(), ReadFault>
     requires over { IsBuiltOver (D.state dumps.old).now index.now }
     requires place { IsPlaceIn index.now place }
     requires ready { IsReady roots.old }
     ensures reads { ReadsAtMost (D.state dumps.old) (D.state dumps.new)
         (body_size (section_in index.now place)) }
-    ensures fault { IfErr result (IsRootsCauseOf (D.state dumps.old) (D.state dumps.new)) }
+    ensures fault { IfErr result (IsReadCauseOf (D.state dumps.old) (D.state dumps.new)) }
     ensures ready { OnOk result (IsReady roots.new) }
     ensures gains { OnOk result (GainsSection (D.state dumps.old).now kind
         (section_in index.now place) roots.old roots.new) }
@@ -87,12 +85,12 @@ fn hear_kind<D: Dumps>(
     kind: RootKind,
     buffer: &mut Vec<u8>,
     roots: &mut RootParts<'_>,
-) -> Result<(), RootsFault>
+) -> Result<(), ReadFault>
     requires over { IsBuiltOver (D.state dumps.old).now index.now }
     requires ready { IsReady roots.old }
     ensures reads { ReadsAtMost (D.state dumps.old) (D.state dumps.new)
         (body_size (root_section kind pid.now (sections_in index.now))) }
-    ensures fault { IfErr result (IsRootsCauseOf (D.state dumps.old) (D.state dumps.new)) }
+    ensures fault { IfErr result (IsReadCauseOf (D.state dumps.old) (D.state dumps.new)) }
     ensures ready { OnOk result (IsReady roots.new) }
     ensures gains { OnOk result (GainsSection (D.state dumps.old).now kind
         (root_section kind pid.now (sections_in index.now)) roots.old roots.new) }
@@ -108,12 +106,12 @@ fn hear_all<D: Dumps>(
     pid: &[u8],
     buffer: &mut Vec<u8>,
     roots: &mut RootParts<'_>,
-) -> Result<(), RootsFault>
+) -> Result<(), ReadFault>
     requires over { IsBuiltOver (D.state dumps.old).now index.now }
     requires ready { IsReady roots.old }
     ensures reads { ReadsAtMost (D.state dumps.old) (D.state dumps.new)
         (bodies_length (root_bodies pid.now (sections_in index.now))) }
-    ensures fault { IfErr result (IsRootsCauseOf (D.state dumps.old) (D.state dumps.new)) }
+    ensures fault { IfErr result (IsReadCauseOf (D.state dumps.old) (D.state dumps.new)) }
     ensures ready { OnOk result (IsReady roots.new) }
     ensures gains { OnOk result (GainsAll (D.state dumps.old).now (sections_in index.now) pid.now
         roots.old roots.new) }
@@ -132,11 +130,11 @@ pub(crate) fn read_parts<D: Dumps>(
     index: &Index,
     pid: &[u8],
     skeleton: &Skeleton,
-) -> Result<Parts, WeightsFault>
+) -> Result<Parts, ReadFault>
     requires { IsBuiltOver (D.state dumps.old).now index.now }
     ensures reads { ReadsAtMost (D.state dumps.old) (D.state dumps.new)
         (bodies_length (root_bodies pid.now (sections_in index.now))) }
-    ensures fault { IfErr result (IsWeightsCauseOf (D.state dumps.old) (D.state dumps.new)) }
+    ensures fault { IfErr result (IsReadCauseOf (D.state dumps.old) (D.state dumps.new)) }
     ensures over { IfOk result (IsOver skeleton.now) }
     ensures parts { IfOk result (λ parts. IfTold (D.state dumps.old).now (λ dump.
         ArePartsOf (roots_elements skeleton.now.addresses (all_roots dump (sections_in index.now) pid.now)) parts)) }

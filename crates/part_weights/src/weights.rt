@@ -1,6 +1,7 @@
 // What the parts of a heap alone hold.
 ghost use Rattle.std.specs.Prelude.{◌≡◌, ◌+◌, ◌<◌, List, length, slice_get, Some, IfErr, IfOk};
 ghost use Rattle.dump_io.specs.Dumps.{IfTold, ReadsAtMost};
+ghost use Rattle.dump_io.specs.Faults.{IsReadCauseOf};
 ghost use Rattle.dump_sections.specs.Index.{sections_in, IsBuiltOver};
 ghost use Rattle.dump_sections.specs.Loading.{bodies_length};
 ghost use Rattle.heap_cells.specs.Loading.{heap_bodies};
@@ -10,17 +11,15 @@ ghost use Rattle.heap_weights.specs.declared.shares.Weight.{Weight};
 ghost use Rattle.root_views.specs.Sections.{root_bodies};
 ghost use Rattle.cell_parts.specs.Elements.{cell_elements};
 ghost use Rattle.cell_parts.specs.Parts.{ArePartsOf, PartElement};
-ghost use Rattle.part_weights.specs.Loading.{IsWeightsCauseOf};
 ghost use Rattle.part_weights.specs.Weights.{address_weighing, cell_weighing, root_weighing, weighing};
 ghost use Rattle.part_weights.specs.Shown.{row};
 ghost use Rattle.part_weights.specs.Inner.Shown.{AreParts, IsOver};
 
-use crate::faults::WeightsFault;
 use crate::held_parts::{HeldPart, sorted_parts};
 use crate::part_rows::PartRow;
 use crate::root_parts::read_parts;
 use cell_parts::{Parts, add_elements};
-use dump_io::Dumps;
+use dump_io::{Dumps, ReadFault};
 use dump_sections::Index;
 use heap_skeleton::Skeleton;
 use heap_weights::{Shares, Weight, weigh};
@@ -132,12 +131,12 @@ impl Weights {
         dumps: &mut D,
         index: &Index,
         pid: &[u8],
-    ) -> Result<Weights, WeightsFault>
+    ) -> Result<Weights, ReadFault>
         requires { IsBuiltOver (D.state dumps.old).now index.now }
         ensures reads { let sections = sections_in index.now in
             ReadsAtMost (D.state dumps.old) (D.state dumps.new)
             (bodies_length (heap_bodies pid.now sections) + bodies_length (root_bodies pid.now sections)) }
-        ensures fault { IfErr result (IsWeightsCauseOf (D.state dumps.old) (D.state dumps.new)) }
+        ensures fault { IfErr result (IsReadCauseOf (D.state dumps.old) (D.state dumps.new)) }
         ensures weights { IfOk result (λ weights. IfTold (D.state dumps.old).now
             (λ dump. weights ≡ root_weighing dump index.now pid.now)) }
     {
@@ -159,11 +158,11 @@ impl Weights {
         index: &Index,
         pid: &[u8],
         address: u64,
-    ) -> Result<Option<Weights>, WeightsFault>
+    ) -> Result<Option<Weights>, ReadFault>
         requires { IsBuiltOver (D.state dumps.old).now index.now }
         ensures reads { ReadsAtMost (D.state dumps.old) (D.state dumps.new)
             (bodies_length (heap_bodies pid.now (sections_in index.now))) }
-        ensures fault { IfErr result (IsWeightsCauseOf (D.state dumps.old) (D.state dumps.new)) }
+        ensures fault { IfErr result (IsReadCauseOf (D.state dumps.old) (D.state dumps.new)) }
         ensures weights { IfOk result (λ found. IfTold (D.state dumps.old).now (λ dump.
             found ≡ address_weighing dump index.now pid.now address)) }
     {

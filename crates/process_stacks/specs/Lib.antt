@@ -3,4 +3,3 @@ pub mod Groups
 pub mod Inner
 pub mod Places
 pub mod Rows
-pub mod Stacks

@@ -14,7 +14,6 @@
 //! ```
 #![tactic(auto)]
 
-mod faults;
 mod frame_sink;
 mod frames;
 mod place_lines;
@@ -23,7 +22,6 @@ mod reading;
 mod stacks;
 mod stands;
 
-pub use faults::StackFault;
 pub use place_lines::lines_tell_places;
 pub use procs::StackProcs;
 pub use stacks::Stacks;

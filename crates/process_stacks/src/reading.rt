@@ -1,21 +1,20 @@
 // Reading the stacks of processes, one after another.
 ghost use Rattle.std.specs.Prelude.{◌≡◌, ◌<◌, ◌++◌, [], ◌∷◌, codes, length, map, IfOk, IfErr, OnOk};
 ghost use Rattle.dump_io.specs.Dumps.{IfTold, ReadsAtMost};
+ghost use Rattle.dump_io.specs.Faults.{IsReadCauseOf};
 ghost use Rattle.dump_sections.specs.Bodies.{body_in, body_size, section_in, IsPlaceIn};
 ghost use Rattle.dump_sections.specs.Index.{IsBuiltOver};
 ghost use Rattle.section_rows.specs.Rows.{row_at};
 ghost use Rattle.process_stacks.specs.Groups.{stand_of};
 ghost use Rattle.process_stacks.specs.Rows.{stack_section, stacks_length};
-ghost use Rattle.process_stacks.specs.Stacks.{IsStackCauseOf};
 ghost use Rattle.process_stacks.specs.Inner.Reading.{AreStacksOf, HasFrames};
 
-use crate::faults::StackFault;
 use crate::frame_sink::{FrameSink, Stop};
 use crate::place_lines::first_lines;
 use crate::procs::StackProcs;
 use crate::stands::{Stand, Stands};
 use body_lines::{WholeLinesFault, hear_whole_lines};
-use dump_io::Dumps;
+use dump_io::{Dumps, ReadFault};
 use dump_sections::Index;
 use first_sections::FirstSections;
 use std::alloc::Global;
@@ -30,12 +29,12 @@ fn read_frames<D: Dumps>(
     place: Option<usize>,
     lines: Vec<u8>,
     buffer: &mut Vec<u8>,
-) -> Result<Vec<u8>, StackFault>
+) -> Result<Vec<u8>, ReadFault>
     requires over { IsBuiltOver (D.state dumps.old).now index.now }
     requires place { IsPlaceIn index.now place }
     ensures reads { ReadsAtMost (D.state dumps.old) (D.state dumps.new)
         (body_size (section_in index.now place)) }
-    ensures fault { IfErr result (IsStackCauseOf (D.state dumps.old) (D.state dumps.new)) }
+    ensures fault { IfErr result (IsReadCauseOf (D.state dumps.old) (D.state dumps.new)) }
     ensures frames { IfOk result (λ all. IfTold (D.state dumps.old).now
         (λ dump. HasFrames (body_in dump (section_in index.now place)) lines.items all.items)) }
 {
@@ -47,9 +46,9 @@ fn read_frames<D: Dumps>(
     match hear_whole_lines(dumps, from, upto, buffer, &mut sink) {
         Ok(()) => Ok(sink.lines),
         Err(WholeLinesFault::Stopped(Stop::Full)) => Ok(sink.lines),
-        Err(WholeLinesFault::Stopped(Stop::NoMemory)) => Err(StackFault::Memory),
-        Err(WholeLinesFault::Memory) => Err(StackFault::Memory),
-        Err(WholeLinesFault::Read) => Err(StackFault::Read),
+        Err(WholeLinesFault::Stopped(Stop::NoMemory)) => Err(ReadFault::Memory),
+        Err(WholeLinesFault::Memory) => Err(ReadFault::Memory),
+        Err(WholeLinesFault::Read) => Err(ReadFault::Read),
     }
 }
 
@@ -73,20 +72,18 @@ fn read_stand<D: Dumps>(
     procs: &StackProcs,
     p: usize,
     buffer: &mut Vec<u8>,
-) -> Result<Stand, StackFault>
+) -> Result<Stand, ReadFault>
     requires over { IsBuiltOver (D.state dumps.old).now index.now }
     requires stacks { AreStacksOf index.now stacks.now }
     requires process { p < length procs.now }
     ensures reads { ReadsAtMost (D.state dumps.old) (D.state dumps.new)
         (body_size (stack_section index.now (row_at procs.now p))) }
-    ensures fault { IfErr result (IsStackCauseOf (D.state dumps.old) (D.state dumps.new)) }
+    ensures fault { IfErr result (IsReadCauseOf (D.state dumps.old) (D.state dumps.new)) }
     ensures stand { IfOk result (λ stand. IfTold (D.state dumps.old).now
         (λ dump. stand ≡ stand_of dump index.now (row_at procs.now p))) }
 {
     let place = stack_place(stacks, procs, p);
-    let Ok(first) = first_lines(alloc, procs, p) else {
-        return Err(StackFault::Memory);
-    };
+    let first = first_lines(alloc, procs, p)?;
     let lines = read_frames(dumps, index, place, first, buffer)?;
     Ok(Stand {
         lines,
@@ -95,13 +92,13 @@ fn read_stand<D: Dumps>(
 }
 
 // Appends a process.
-fn push_stand(stands: &mut Vec<Stand>, stand: Stand) -> Result<(), StackFault>
+fn push_stand(stands: &mut Vec<Stand>, stand: Stand) -> Result<(), ReadFault>
     ensures stands { OnOk result (stands.new.items ≡ stands.old.items ++ stand ∷ []) }
-    ensures fault { IfErr result (λ fault. fault ≡ StackFault.Memory) }
+    ensures fault { IfErr result (λ fault. fault ≡ ReadFault.Memory) }
 {
     match stands.push(stand) {
         Ok(()) => Ok(()),
-        Err(_) => Err(StackFault::Memory),
+        Err(_) => Err(ReadFault::Memory),
     }
 }
 
@@ -112,12 +109,12 @@ pub(crate) fn read_stands<D: Dumps>(
     index: &Index,
     stacks: &FirstSections<'_>,
     procs: &StackProcs,
-) -> Result<Stands, StackFault>
+) -> Result<Stands, ReadFault>
     requires over { IsBuiltOver (D.state dumps.old).now index.now }
     requires stacks { AreStacksOf index.now stacks.now }
     ensures reads { ReadsAtMost (D.state dumps.old) (D.state dumps.new)
         (stacks_length index.now procs.now) }
-    ensures fault { IfErr result (IsStackCauseOf (D.state dumps.old) (D.state dumps.new)) }
+    ensures fault { IfErr result (IsReadCauseOf (D.state dumps.old) (D.state dumps.new)) }
     ensures count { IfOk result (λ stands. length stands.all.items ≡ length procs.now) }
     ensures stands { IfOk result (λ stands. IfTold (D.state dumps.old).now
         (λ dump. stands.all.items ≡ map (stand_of dump index.now) procs.now)) }

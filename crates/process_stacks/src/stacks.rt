@@ -1,19 +1,18 @@
 // The processes of a dump by the places at which they stand.
 ghost use Rattle.std.specs.Prelude.{◌≡◌, [], ◌<◌, length, slice_index_or, All, IfOk, IfErr};
 ghost use Rattle.dump_io.specs.Dumps.{IfTold, ReadsAtMost};
+ghost use Rattle.dump_io.specs.Faults.{IsReadCauseOf};
 ghost use Rattle.dump_sections.specs.Index.{IsBuiltOver};
 ghost use Rattle.size_order.specs.Sorting.{most_first};
 ghost use Rattle.text_groups.specs.Groups.{groups};
 ghost use Rattle.process_stacks.specs.Groups.{found_from, FitsStacks};
 ghost use Rattle.process_stacks.specs.Rows.{stacks_length};
-ghost use Rattle.process_stacks.specs.Stacks.{IsStackCauseOf};
 ghost use Rattle.process_stacks.specs.Inner.Reading.{AreStacksOf};
 
-use crate::faults::StackFault;
 use crate::procs::StackProcs;
 use crate::reading::read_stands;
 use crate::stands::Stands;
-use dump_io::Dumps;
+use dump_io::{Dumps, ReadFault};
 use dump_sections::Index;
 use first_sections::FirstSections;
 use size_order::sort_most_first;
@@ -38,31 +37,24 @@ impl Model for Stacks {
 }
 
 // The stacks of an index by their pids.
-fn find_stacks<'a>(alloc: Global, index: &'a Index) -> Result<FirstSections<'a>, StackFault>
+fn find_stacks<'a>(alloc: Global, index: &'a Index) -> Result<FirstSections<'a>, ReadFault>
     ensures stacks { IfOk result (AreStacksOf index.now) }
-    ensures fault { IfErr result (λ fault. fault ≡ StackFault.Memory) }
+    ensures fault { IfErr result (λ fault. fault ≡ ReadFault.Memory) }
 {
-    match FirstSections::find(alloc, index, b"proc_stack") {
-        Ok(stacks) => Ok(stacks),
-        Err(_) => Err(StackFault::Memory),
-    }
+    Ok(FirstSections::find(alloc, index, b"proc_stack")?)
 }
 
 // The groups of these processes, the largest first.
-fn sorted_groups(alloc: Global, stands: &Stands) -> Result<Vec<TextGroup>, StackFault>
+fn sorted_groups(alloc: Global, stands: &Stands) -> Result<Vec<TextGroup>, ReadFault>
     ensures groups { IfOk result (λ found. found.items
         ≡ most_first (λ group. group.count) (groups stands.now.all.items)) }
     ensures firsts { IfOk result (λ found.
         All (λ group. group.first < length stands.now.all.items) found.items) }
-    ensures fault { IfErr result (λ fault. fault ≡ StackFault.Memory) }
+    ensures fault { IfErr result (λ fault. fault ≡ ReadFault.Memory) }
 {
-    let Ok(mut groups) = group_texts(alloc, stands) else {
-        return Err(StackFault::Memory);
-    };
-    match sort_most_first(&mut groups) {
-        Ok(()) => Ok(groups),
-        Err(_) => Err(StackFault::Memory),
-    }
+    let mut groups = group_texts(alloc, stands)?;
+    sort_most_first(&mut groups)?;
+    Ok(groups)
 }
 
 impl Stacks {
@@ -82,14 +74,14 @@ impl Stacks {
         dumps: &mut D,
         index: &Index,
         procs: &StackProcs,
-    ) -> Result<Stacks, StackFault>
+    ) -> Result<Stacks, ReadFault>
         requires { IsBuiltOver (D.state dumps.old).now index.now }
         ensures reads { ReadsAtMost (D.state dumps.old) (D.state dumps.new)
             (stacks_length index.now procs.now) }
         ensures found { IfOk result (λ stacks. IfTold (D.state dumps.old).now
             (λ dump. stacks ≡ found_from dump index.now procs.now)) }
         ensures fits { IfOk result (FitsStacks (length procs.now)) }
-        ensures fault { IfErr result (IsStackCauseOf (D.state dumps.old) (D.state dumps.new)) }
+        ensures fault { IfErr result (IsReadCauseOf (D.state dumps.old) (D.state dumps.new)) }
     {
         let firsts = find_stacks(alloc, index)?;
         let stands = read_stands(alloc, dumps, index, &firsts, procs)?;

@@ -1,12 +1,8 @@
--- Some of the roots of a body, and why its roots weren't all heard.
-use Rattle.std.specs.Prelude.{ℕ, ◌+◌, ◌<◌, ◌^◌, List, drop, length, take, None}
-use Rattle.dump_io.specs.Dumps.{DeviceState}
-use Rattle.dump_io.specs.Faults.{Cause, fails, lacks, IsCauseOf}
+-- Some of the roots of a body.
+use Rattle.std.specs.Prelude.{ℕ, ◌+◌, ◌<◌, ◌^◌, List, drop, length, take}
 use Rattle.root_views.specs.Kinds.{roots_in}
 use Rattle.root_views.specs.Roots.{BodyRoot}
 use Rattle.root_views.specs.declared.kinds.RootKind.{RootKind}
-use Rattle.root_lines.specs.declared.faults.RootsFault.{RootsFault}
-use Rattle.root_lines.specs.declared.faults.RootsFault.TheVariants.{Read, Memory}
 
 -- the elements of a list from a place on, from 0, at most so many
 abbrev pub some_of : {X : Type 0} → ℕ → ℕ → List X → List X
@@ -24,12 +20,3 @@ shown_roots kind first most body = record { shown = some_of first most (roots_in
 -- the offset in the file of a root of a body that begins at this one is a number of 64 bits
 abbrev pub IsPlaced : ℕ → BodyRoot → Type 0
 IsPlaced from root = from + root.at < 2 ^ 64
-
--- what such a fault says: nothing is refused
-abbrev pub roots_cause : RootsFault → Cause ⊥
-roots_cause Read = fails
-roots_cause Memory = lacks
-
--- why the roots weren't all heard: the device failed; memory may be lacking at any time
-abbrev pub IsRootsCauseOf : DeviceState → DeviceState → RootsFault → Type 0
-IsRootsCauseOf before after fault = IsCauseOf None before after (roots_cause fault)

@@ -1,16 +1,15 @@
 // Hearing the roots of a body one by one.
 ghost use Rattle.std.specs.Prelude.{◌+◌, ◌-◌, ◌<◌, ◌≤◌, ◌^◌, [], ◌∷◌, List, length, OnOk, IfErr};
 ghost use Rattle.dump_io.specs.Dumps.{size_of, IsOpen, ReadsAtMost};
+ghost use Rattle.dump_io.specs.Faults.{IsReadCauseOf};
 ghost use Rattle.body_lines.specs.Hearing.{Hears, HearsBody};
 ghost use Rattle.root_views.specs.Roots.{BodyRoot};
 ghost use Rattle.root_views.specs.Seen.{root};
 ghost use Rattle.root_lines.specs.Placed.{placed_roots};
-ghost use Rattle.root_lines.specs.Shown.{IsRootsCauseOf};
 ghost use Rattle.root_lines.specs.Inner.Each.{HearsThrough};
 
-use crate::faults::RootsFault;
 use body_lines::{WholeLineSink, WholeLinesFault, hear_whole_lines};
-use dump_io::Dumps;
+use dump_io::{Dumps, ReadFault};
 use root_views::{Root, RootKind};
 use std::alloc::AllocError;
 
@@ -88,13 +87,13 @@ pub fn hear_roots<D: Dumps, S: EachRoot>(
     kind: RootKind,
     buffer: &mut Vec<u8>,
     sink: &mut S,
-) -> Result<(), RootsFault>
+) -> Result<(), ReadFault>
     requires open { IsOpen (D.state dumps.old).now }
     requires within { upto ≤ size_of (D.state dumps.old).now }
     requires ordered { from ≤ upto }
     requires ready { S.ready sink.old }
     ensures reads { ReadsAtMost (D.state dumps.old) (D.state dumps.new) (upto - from) }
-    ensures fault { IfErr result (IsRootsCauseOf (D.state dumps.old) (D.state dumps.new)) }
+    ensures fault { IfErr result (IsReadCauseOf (D.state dumps.old) (D.state dumps.new)) }
     ensures ready { OnOk result (S.ready sink.new) }
     ensures hears { OnOk result (let now = (D.state dumps.old).now in
         HearsBody S.hears (placed_roots kind) sink.old sink.new from upto now) }
@@ -102,8 +101,8 @@ pub fn hear_roots<D: Dumps, S: EachRoot>(
     let mut by = ByRoot { kind, sink };
     match hear_whole_lines(dumps, from, upto, buffer, &mut by) {
         Ok(()) => Ok(()),
-        Err(WholeLinesFault::Read) => Err(RootsFault::Read),
-        Err(WholeLinesFault::Memory) => Err(RootsFault::Memory),
-        Err(WholeLinesFault::Stopped(_)) => Err(RootsFault::Memory),
+        Err(WholeLinesFault::Read) => Err(ReadFault::Read),
+        Err(WholeLinesFault::Memory) => Err(ReadFault::Memory),
+        Err(WholeLinesFault::Stopped(_)) => Err(ReadFault::Memory),
     }
 }

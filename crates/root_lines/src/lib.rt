@@ -19,7 +19,6 @@
 
 mod counting;
 mod each_root;
-mod faults;
 mod hearing;
 mod keeping;
 mod kept_roots;
@@ -27,5 +26,4 @@ mod root_sink;
 mod shown_roots;
 
 pub use each_root::{EachRoot, hear_roots};
-pub use faults::RootsFault;
 pub use shown_roots::ShownRoots;

@@ -2,17 +2,17 @@
 ghost use Rattle.std.specs.Prelude.{◌≡◌, ◌-◌, ◌<◌, ◌≤◌, length, slice_get, All, Some, IfErr, IfOk};
 ghost use Rattle.std.specs.List.{between};
 ghost use Rattle.dump_io.specs.Dumps.{size_of, IfTold, IsOpen, ReadsAtMost};
+ghost use Rattle.dump_io.specs.Faults.{IsReadCauseOf};
 ghost use Rattle.root_views.specs.Seen.{root};
-ghost use Rattle.root_lines.specs.Shown.{shown_roots, IsPlaced, IsRootsCauseOf};
+ghost use Rattle.root_lines.specs.Shown.{shown_roots, IsPlaced};
 ghost use Rattle.root_lines.specs.Placed.{placed_roots};
 ghost use Rattle.root_lines.specs.Inner.Hearing.{IsReady, Took};
 
-use crate::faults::RootsFault;
 use crate::keeping::kept_root;
 use crate::kept_roots::KeptRoots;
 use crate::root_sink::RootSink;
 use body_lines::{WholeLinesFault, hear_whole_lines};
-use dump_io::Dumps;
+use dump_io::{Dumps, ReadFault};
 use root_views::{Root, RootKind};
 use std::alloc::Global;
 use std::marker::Model;
@@ -26,12 +26,12 @@ fn take_roots<D: Dumps>(
     kind: RootKind,
     first: u64,
     most: u64,
-) -> Result<RootSink, RootsFault>
+) -> Result<RootSink, ReadFault>
     requires open { IsOpen (D.state dumps.old).now }
     requires within { upto ≤ size_of (D.state dumps.old).now }
     requires ordered { from ≤ upto }
     ensures reads { ReadsAtMost (D.state dumps.old) (D.state dumps.new) (upto - from) }
-    ensures fault { IfErr result (IsRootsCauseOf (D.state dumps.old) (D.state dumps.new)) }
+    ensures fault { IfErr result (IsReadCauseOf (D.state dumps.old) (D.state dumps.new)) }
     ensures ready { IfOk result IsReady }
     ensures roots { IfOk result (λ sink. IfTold (D.state dumps.old).now (λ dump.
         Took first most (placed_roots kind from (between from upto dump)) sink)) }
@@ -49,9 +49,9 @@ fn take_roots<D: Dumps>(
     };
     match hear_whole_lines(dumps, from, upto, &mut buffer, &mut sink) {
         Ok(()) => Ok(sink),
-        Err(WholeLinesFault::Read) => Err(RootsFault::Read),
-        Err(WholeLinesFault::Memory) => Err(RootsFault::Memory),
-        Err(WholeLinesFault::Stopped(_)) => Err(RootsFault::Memory),
+        Err(WholeLinesFault::Read) => Err(ReadFault::Read),
+        Err(WholeLinesFault::Memory) => Err(ReadFault::Memory),
+        Err(WholeLinesFault::Stopped(_)) => Err(ReadFault::Memory),
     }
 }
 
@@ -92,12 +92,12 @@ impl ShownRoots {
         kind: RootKind,
         first: u64,
         most: u64,
-    ) -> Result<ShownRoots, RootsFault>
+    ) -> Result<ShownRoots, ReadFault>
         requires open { IsOpen (D.state dumps.old).now }
         requires within { upto ≤ size_of (D.state dumps.old).now }
         requires ordered { from ≤ upto }
         ensures reads { ReadsAtMost (D.state dumps.old) (D.state dumps.new) (upto - from) }
-        ensures fault { IfErr result (IsRootsCauseOf (D.state dumps.old) (D.state dumps.new)) }
+        ensures fault { IfErr result (IsReadCauseOf (D.state dumps.old) (D.state dumps.new)) }
         ensures roots { IfOk result (λ roots. IfTold (D.state dumps.old).now (λ dump.
             roots ≡ shown_roots kind first most (between from upto dump))) }
         ensures places { IfOk result (λ roots. All (IsPlaced from) roots.shown) }

@@ -10,6 +10,7 @@ use Rattle.std.proofs.lemmas.List.Sums.{sum_by-append}
 use Rattle.dump_io.specs.Colons.{is_colon, has_colon}
 use Rattle.field_lines.specs.Lines.{TextLine, IsPart}
 use Rattle.term_forms.specs.Elements.{Element}
+use Rattle.term_forms.specs.Laws.Texts.{whole_of-some}
 use Rattle.term_forms.specs.Reading.{front, whole_of}
 use Rattle.root_views.specs.Roots.{Term, Dist, Unread, BodyRoot, has_text, message, token, behind_colon, dist_roots, pair_roots, mail_line, is_message, IsInside}
 use Rattle.root_views.proofs.LineFacts.{roots_inside}
@@ -101,22 +102,17 @@ last_place (c ∷ text) h = of (has_colon text) refl h (last_place text)
     of true e h rest = let r = rest e in record { at = suc r.at; within = omega (arith, r.within); here = r.here; after = later r }
     of false e h rest = record { at = 0; within = omega arith; here = first (is_colon c) h; after = none e }
 
-whole_some : (text : List ℕ) (e : Element) → whole_of text ≡ Some e → 0 < length text
-unfolding whole_of front
-whole_some [] e h = cc
-whole_some (c ∷ text) e h = omega arith
-
 dist_fits : (text : List ℕ) (e : Element) → has_colon text ≡ true → whole_of (after_last is_colon text) ≡ Some e → length (before_last is_colon text) + 1 < length text
 dist_fits text e some read =
     let p = last_place text some in
     let parts = last_colon text p.at p.within p.after p.here in
     let front_len : length (before_last is_colon text) ≡ p.at = ap length parts.1 ∙ length-take-le p.at text (omega (arith, p.within)) in
-    let rest : 0 < length (drop (p.at + 1) text) = whole_some (drop (p.at + 1) text) e (ap whole_of (sym parts.2) ∙ read) in
+    let rest : 0 < length (drop (p.at + 1) text) = whole_of-some (drop (p.at + 1) text) e (ap whole_of (sym parts.2) ∙ read) in
     omega (arith, front_len, rest, length-drop (p.at + 1) text)
 
 pair_fits : (text : List ℕ) (n : ℕ) (d : Element) → whole_of (drop 1 (drop n text)) ≡ Some d → n + 1 < length text
 pair_fits text n d read =
-    let rest = whole_some (drop 1 (drop n text)) d read in
+    let rest = whole_of-some (drop 1 (drop n text)) d read in
     omega (arith, rest, length-drop 1 (drop n text), length-drop n text)
 
 line_inside : (body : List ℕ) (l : TextLine) → IsPart body l → has_text l ≡ true → All (IsInside body) (mail_line l)

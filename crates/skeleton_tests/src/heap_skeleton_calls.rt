@@ -3,8 +3,8 @@ ghost use Rattle.std.specs.Prelude.{◌<◌, length};
 
 use cell_graphs::CellGraph;
 use cell_words::Weighed;
-use dump_io::{Dumps, Limits, MemDumps};
-use heap_skeleton::{Kind, Skeleton, SkeletonFault};
+use dump_io::{Dumps, Limits, MemDumps, ReadFault};
+use heap_skeleton::{Kind, Skeleton};
 use section_index::build;
 use std::alloc::{AllocError, Global};
 use std::process::Abort;
@@ -25,7 +25,7 @@ pub(crate) fn device(
 }
 
 // The skeleton that a device has, or why it isn't loaded.
-fn load<D: Dumps>(alloc: Global, dumps: &mut D) -> Result<Result<Skeleton, SkeletonFault>, Fail> {
+fn load<D: Dumps>(alloc: Global, dumps: &mut D) -> Result<Result<Skeleton, ReadFault>, Fail> {
     let index = build(alloc, dumps, "V", &Limits::usual())?;
     Ok(Skeleton::load(alloc, dumps, &index, b"<0.1.0>"))
 }
@@ -188,6 +188,6 @@ fn cells_are_found(rt: HostRuntime) -> Result<(), Fail> {
 #[test]
 fn a_failure_is_told(rt: HostRuntime) -> Result<(), Fail> {
     let mut dumps = device(rt.alloc(), "0.5", "10:t0:\n", "", &[3])?;
-    assert!(rt; matches!(load(rt.alloc(), &mut dumps)?, Err(SkeletonFault::Read)));
+    assert!(rt; matches!(load(rt.alloc(), &mut dumps)?, Err(ReadFault::Read)));
     Ok(())
 }

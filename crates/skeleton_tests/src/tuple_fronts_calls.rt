@@ -4,14 +4,14 @@ ghost use Rattle.std.specs.Bool.{OnTrue};
 ghost use Rattle.std.specs.List.Sorted.{IsStrictlyIncreasing};
 
 use crate::heap_skeleton_calls::device;
-use dump_io::{Dumps, Limits};
+use dump_io::{Dumps, Limits, ReadFault};
 use heap_skeleton::Skeleton;
 use section_index::build;
 use std::alloc::{AllocError, Global};
 use std::process::Abort;
 use std::test::Fail;
 use term_forms::put_elem;
-use tuple_fronts::{FrontsFault, TupleFronts};
+use tuple_fronts::TupleFronts;
 
 // Whether a cell comes after the one before it, if there is one.
 fn is_behind(cells: &[u32], k: usize) -> bool
@@ -39,7 +39,7 @@ fn load<D: Dumps>(
     alloc: Global,
     dumps: &mut D,
     cells: &[u32],
-) -> Result<Result<TupleFronts, FrontsFault>, Fail> {
+) -> Result<Result<TupleFronts, ReadFault>, Fail> {
     let index = build(alloc, dumps, "V", &Limits::usual())?;
     let skeleton = match Skeleton::load(alloc, dumps, &index, b"<0.1.0>") {
         Ok(skeleton) => skeleton,
@@ -115,6 +115,6 @@ fn tuples_have_fronts(rt: HostRuntime) -> Result<(), Fail> {
 #[test]
 fn a_failure_while_reading_again_is_told(rt: HostRuntime) -> Result<(), Fail> {
     let mut dumps = device(rt.alloc(), "0.5", "10:t0:\n", "", &[4])?;
-    assert!(rt; matches!(load(rt.alloc(), &mut dumps, &[0])?, Err(FrontsFault::Read)));
+    assert!(rt; matches!(load(rt.alloc(), &mut dumps, &[0])?, Err(ReadFault::Read)));
     Ok(())
 }

@@ -1,8 +1,8 @@
 ghost use Rattle.dump_sections.specs.Index.{IsBuiltOver};
 
-use dump_io::{Dumps, Limits, MemDumps, MemSink};
+use dump_io::{Dumps, Limits, MemDumps, MemSink, ReadFault};
 use dump_sections::Index;
-use process_stacks::{StackFault, StackProcs, Stacks};
+use process_stacks::{StackProcs, Stacks};
 use section_index::build;
 use stack_text::put_stacks;
 use std::alloc::{AllocError, Global};
@@ -229,7 +229,7 @@ fn fails_at(alloc: Global, call: u64) -> Result<bool, Fail> {
         return Ok(false);
     };
     let found = Stacks::gather(alloc, &mut dumps, &index, &procs);
-    Ok(matches!(found, Err(StackFault::Read)))
+    Ok(matches!(found, Err(ReadFault::Read)))
 }
 
 #[test]

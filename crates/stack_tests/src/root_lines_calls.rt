@@ -1,8 +1,8 @@
 ghost use Rattle.std.specs.Prelude.{◌≤◌};
 ghost use Rattle.dump_io.specs.Dumps.{size_of, IsOpen};
 
-use dump_io::{Dumps, MemDumps};
-use root_lines::{EachRoot, RootsFault, ShownRoots, hear_roots};
+use dump_io::{Dumps, MemDumps, ReadFault};
+use root_lines::{EachRoot, ShownRoots, hear_roots};
 use root_views::{Root, RootKind, What};
 use std::alloc::{AllocError, Global};
 use std::test::Fail;
@@ -62,8 +62,8 @@ fn drawn_between<D: Dumps>(
 {
     let text = match ShownRoots::load(alloc, dumps, from, upto, kind, first, most) {
         Ok(roots) => draw(alloc, &roots)?,
-        Err(RootsFault::Read) => Vec::from_slice(alloc, b"failed")?,
-        Err(RootsFault::Memory) => Vec::from_slice(alloc, b"lacking")?,
+        Err(ReadFault::Read) => Vec::from_slice(alloc, b"failed")?,
+        Err(ReadFault::Memory) => Vec::from_slice(alloc, b"lacking")?,
     };
     Ok(text)
 }
@@ -218,7 +218,7 @@ fn heard_between<D: Dumps>(
     from: u64,
     middle: u64,
     upto: u64,
-) -> Result<Vec<u8>, RootsFault>
+) -> Result<Vec<u8>, ReadFault>
     requires open { IsOpen (D.state dumps.old).now }
     requires within { upto ≤ size_of (D.state dumps.old).now }
     requires stack { from ≤ middle }
@@ -265,8 +265,8 @@ fn heard(
     let from = (HEAD.len() as u64).min(middle);
     let text = match heard_between(alloc, &mut dumps, from, middle, size) {
         Ok(text) => text,
-        Err(RootsFault::Read) => Vec::from_slice(alloc, b"failed")?,
-        Err(RootsFault::Memory) => Vec::from_slice(alloc, b"lacking")?,
+        Err(ReadFault::Read) => Vec::from_slice(alloc, b"failed")?,
+        Err(ReadFault::Memory) => Vec::from_slice(alloc, b"lacking")?,
     };
     Ok(text)
 }

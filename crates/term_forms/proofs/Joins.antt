@@ -2,7 +2,8 @@
 use Rattle.std.proofs.Common.{◌≡◌, ℕ, zero, suc, ◌-◌, ◌<◌, ◌≤◌, ◌==◌, true, List, [], ◌∷◌, length, Option, Some, None, refl, sym, ◌∙◌, ap, arith}
 use Rattle.std.specs.Option.{is_some, option_and_then, unwrap_or}
 use Rattle.term_forms.specs.Words.{comma}
-use Rattle.term_forms.specs.Reading.{front, whole_of, ◌>>=◌}
+use Rattle.term_forms.specs.Laws.Texts.{whole_of-some}
+use Rattle.term_forms.specs.Reading.{whole_of, ◌>>=◌}
 use Rattle.term_forms.specs.ReadingForms.{until_of, joined_of, joined_list, with_first}
 use Rattle.term_forms.specs.Elements.{Element}
 use Rattle.std.proofs.lemmas.List.{length-append}
@@ -90,11 +91,6 @@ joined_list_first count left text e rest split h = ap (λ o. unwrap_or o []) spl
 
 -- ---- there are no more elements than bytes
 
-whole_some : (text : List ℕ) (e : Element) → whole_of text ≡ Some e → 0 < length text
-unfolding whole_of front
-whole_some [] e h = cc
-whole_some (c ∷ text) e h = omega arith
-
 until_shorter : (stop : ℕ) (text : List ℕ) (e : Element) (rest : List ℕ) → until_of stop text ≡ Some (e, rest) → length rest < length text
 until_shorter stop text e rest h =
     let is = until_sound stop text e rest h in
@@ -105,7 +101,7 @@ unfolding joined_of
 joined_within zero text es h = omega arith
 joined_within (suc zero) text es h =
     let found = bind_some (whole_of text) (λ e. Some (e ∷ [])) es h in
-    let some = whole_some text found.0 found.1 in
+    let some = whole_of-some text found.0 found.1 in
     omega (arith, some)
 joined_within (suc (suc n)) text es h =
     let first = bind_some (until_of comma text) (λ found. joined_of (suc n) found.1 >>= λ es. Some (found.0 ∷ es)) es h in

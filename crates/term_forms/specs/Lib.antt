@@ -3,6 +3,7 @@ pub mod Elements
 pub mod Forms
 pub mod Inner
 pub mod Joined
+pub mod Laws
 pub mod Places
 pub mod Reading
 pub mod ReadingForms

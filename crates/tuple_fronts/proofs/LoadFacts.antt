@@ -21,14 +21,15 @@ use Rattle.dump_sections.specs.Index.{Contents}
 use Rattle.dump_sections.specs.Sections.{Section}
 use Rattle.heap_cells.specs.Cells.{Cell, addresses, first_cells, kind_of, spelled_cell}
 use Rattle.heap_cells.specs.HeapMap.{form_at}
+use Rattle.heap_cells.specs.Laws.Cells.{first_cells-append}
 use Rattle.heap_cells.specs.Loading.{enc_of}
-use Rattle.heap_skeleton.specs.Skeletons.{SkeletonMap, first_places, heap_in, skeleton_in}
+use Rattle.heap_skeleton.specs.Skeletons.{SkeletonMap, first_places, heap_in, is_tuple, is_tuple_kind, skeleton_in}
 use Rattle.term_forms.specs.Elements.{Element}
 use Rattle.term_forms.specs.Forms.{HeapForm}
 use Rattle.term_forms.specs.Words.{led_of}
 use Rattle.tuple_fronts.specs.Fronts.{form_front, front_of}
 use Rattle.tuple_fronts.specs.declared.kept.Kept.{Kept}
-use Rattle.tuple_fronts.specs.Inner.Hearing.{IsSplitAt, KeepsSections, all_known, known_elements, is_tuple, is_tuple_at, known_line, known_of, left_behind, left_line, line_of, section_lines}
+use Rattle.tuple_fronts.specs.Inner.Hearing.{IsSplitAt, KeepsSections, all_known, known_elements, known_line, known_of, left_behind, left_line, line_of, section_lines}
 use Rattle.tuple_fronts.specs.Inner.Kept.{AreFrontsOf, IsSound, shown_fronts}
 use Rattle.tuple_fronts.proofs.CellFacts.{AreAt, AreFound, IsWithin, cells_from, front-listed, listed, places_from, section-found}
 use Rattle.tuple_fronts.proofs.PartFacts.{shown-are}
@@ -39,7 +40,7 @@ left-count : (s : SkeletonMap) (enc : Enc) (line : Line) (cells : List ℕ) → 
 left-count s enc line [] = refl
 left-count s enc line (cell ∷ cells) =
     elim (nat_lt (line_of s cell) (line.at + length line.raw)) as (λ b. length (if b
-    then known_elements enc (is_tuple_at s cell) (drop (line_of s cell - line.at) line.raw) ∷ [] else [])
+    then known_elements enc (is_tuple s cell) (drop (line_of s cell - line.at) line.raw) ∷ [] else [])
     + length (if b then cells else cell ∷ cells) ≡ length (cell ∷ cells)) [
       | true ↦ omega arith
       | false ↦ omega arith
@@ -145,18 +146,6 @@ split-high own cells count split = λ i d inside.
 
 -- ---- the cells of two sections, and where their lines begin
 
--- the first cells of lines behind others
-cells-append : (seen : List ℕ) (xs ys : List Cell) → first_cells seen (xs ++ ys) ≡ first_cells seen xs ++ first_cells (seen ++ addresses xs) ys
-cells-append seen [] ys = ap (λ l. first_cells l ys) (sym (append-nil seen))
-cells-append seen (x ∷ xs) ys =
-    let more : (seen ++ x.address ∷ []) ++ addresses xs ≡ seen ++ addresses (x ∷ xs) = append_assoc seen (x.address ∷ []) (addresses xs) in
-    let later = cells-append (seen ++ x.address ∷ []) xs ys ∙ ap (λ l. first_cells (seen ++ x.address ∷ []) xs ++ first_cells l ys) more in
-    elim (list_any (λ address. address == x.address) seen) as (λ b. (if b then first_cells (seen ++ x.address ∷ []) (xs ++ ys) else x ∷ first_cells (seen ++ x.address ∷ []) (xs ++ ys))
-    ≡ (if b then first_cells (seen ++ x.address ∷ []) xs else x ∷ first_cells (seen ++ x.address ∷ []) xs) ++ first_cells (seen ++ addresses (x ∷ xs)) ys) [
-      | true ↦ later
-      | false ↦ ap (λ l. x ∷ l) later
-    ]
-
 abbrev firsts : List (ℕ × ℕ) → List ℕ
 firsts places = map (λ p. p.0) places
 
@@ -241,7 +230,7 @@ kept-fronts s now dump index heap literals cells kept is_told skeleton rising in
     let seen = addresses (cells_from enc 0 own_raws) in
     let other_cells = first_cells seen (cells_from enc 0 other_raws) in
     let other_lines = first_places seen (places_from other_base 0 other_raws) in
-    let all_are : all ≡ own_cells ++ other_cells = cells-append [] (cells_from enc 0 own_raws) (cells_from enc 0 other_raws) in
+    let all_are : all ≡ own_cells ++ other_cells = first_cells-append [] (cells_from enc 0 own_raws) (cells_from enc 0 other_raws) in
     let lines_are : s.lines ≡ own_lines ++ other_lines =
     ap (λ (k : SkeletonMap). k.lines) skeleton ∙ places-append [] (places_from own_base 0 own_raws) (places_from other_base 0 other_raws)
     ∙ ap (λ l. own_lines ++ first_places l (places_from other_base 0 other_raws)) (same-addresses enc own_base 0 own_raws) in
@@ -250,8 +239,8 @@ kept-fronts s now dump index heap literals cells kept is_told skeleton rising in
     let same_others = same-length enc other_base 0 seen other_raws in
     let count : length s.addresses ≡ length own_cells + length other_cells =
     ap (λ (k : SkeletonMap). length k.addresses) skeleton ∙ length-map all (λ (c : Cell). c.address) ∙ ap length all_are ∙ length-append own_cells other_cells in
-    let tuples : (n : ℕ) → is_tuple_at s n ≡ is_tuple (option_map kind_of (form n)) =
-    λ n. ap (λ (k : SkeletonMap). is_tuple (slice_index_or k.kinds n None)) skeleton ∙ ap is_tuple (kinds-at all n) in
+    let tuples : (n : ℕ) → is_tuple s n ≡ is_tuple_kind (option_map kind_of (form n)) =
+    λ n. ap (λ (k : SkeletonMap). is_tuple_kind (slice_index_or k.kinds n None)) skeleton ∙ ap is_tuple_kind (kinds-at all n) in
     let own_at : AreAt s form 0 own_cells own_lines = are-at s all 0 own_cells other_cells own_lines other_lines same_own all_are lines_are in
     let others_at : AreAt s form (length own_cells) other_cells other_lines =
     are-at s all (length own_cells) other_cells [] other_lines [] same_others

@@ -2,18 +2,17 @@
 ghost use Rattle.std.specs.Prelude.{◌≡◌, ◌<◌, ◌≤◌, Some, [], All, length, slice_get, slice_index_or, IfOk, IfErr};
 ghost use Rattle.std.specs.List.Sorted.{IsStrictlyIncreasing};
 ghost use Rattle.dump_io.specs.Dumps.{ReadsAtMost, IfTold};
+ghost use Rattle.dump_io.specs.Faults.{IsReadCauseOf};
 ghost use Rattle.dump_sections.specs.Index.{IsBuiltOver, sections_in};
 ghost use Rattle.dump_sections.specs.Loading.{bodies_length};
 ghost use Rattle.heap_cells.specs.Loading.{heap_bodies};
 ghost use Rattle.heap_skeleton.specs.Skeletons.{skeleton_for};
 ghost use Rattle.term_forms.specs.Seen.{element};
 ghost use Rattle.tuple_fronts.specs.Fronts.{fronts_for};
-ghost use Rattle.tuple_fronts.specs.Loading.{IsFrontsCauseOf};
 
-use crate::faults::FrontsFault;
 use crate::kept::Kept;
 use crate::loading::keep_fronts;
-use dump_io::Dumps;
+use dump_io::{Dumps, ReadFault};
 use dump_sections::Index;
 use heap_skeleton::Skeleton;
 use std::alloc::Global;
@@ -55,7 +54,7 @@ impl TupleFronts {
         pid: &[u8],
         skeleton: &Skeleton,
         cells: &[u32],
-    ) -> Result<TupleFronts, FrontsFault>
+    ) -> Result<TupleFronts, ReadFault>
         requires over { IsBuiltOver (D.state dumps.old).now index.now }
         requires cells { All (λ n. n < length skeleton.now.addresses) cells.now }
         requires ascending { IsStrictlyIncreasing cells.now }
@@ -63,7 +62,7 @@ impl TupleFronts {
             (λ dump. skeleton.now ≡ skeleton_for dump index.now pid.now) }
         ensures reads { ReadsAtMost (D.state dumps.old) (D.state dumps.new)
             (bodies_length (heap_bodies pid.now (sections_in index.now))) }
-        ensures fault { IfErr result (IsFrontsCauseOf (D.state dumps.old) (D.state dumps.new)) }
+        ensures fault { IfErr result (IsReadCauseOf (D.state dumps.old) (D.state dumps.new)) }
         ensures count { IfOk result (λ f. length f ≡ length cells.now) }
         ensures fronts { IfOk result (λ f. IfTold (D.state dumps.old).now
             (λ dump. f ≡ fronts_for dump index.now pid.now cells.now)) }

@@ -1,8 +1,9 @@
 // What is kept of tuples: the texts of their first elements.
-ghost use Rattle.std.specs.Prelude.{◌≡◌, ◌<◌, [], length, slice_index, slice_index_or, slice_range, ◌≤◌, IsSome, OnOk};
+ghost use Rattle.std.specs.Prelude.{◌≡◌, ◌<◌, [], length, slice_index, slice_index_or, IsSome, OnOk};
 ghost use Rattle.term_forms.specs.Reading.{whole_of};
 ghost use Rattle.tuple_fronts.specs.Inner.Kept.{element_texts, start_at, IsEnded, IsKept, IsPushed, IsSound, IsSpanOf};
 
+use dump_io::items_between;
 use std::alloc::{AllocError, Global};
 
 /// The texts of elements, those of each front one behind the other.
@@ -24,15 +25,6 @@ fn span_of(ends: &[u32], i: usize) -> (usize, usize)
 {
     let from = if i == 0 { 0 } else { ends[i - 1] as usize };
     (from, ends[i] as usize)
-}
-
-// The bytes between two places.
-fn part_of(bytes: &[u8], from: usize, upto: usize) -> &[u8]
-    requires ordered { from ≤ upto }
-    requires within { upto ≤ length bytes.now }
-    ensures { result.now ≡ slice_range bytes.now from upto }
-{
-    &bytes[from..upto]
 }
 
 impl Kept {
@@ -98,6 +90,6 @@ impl Kept {
         ensures spelled { IsSome (whole_of result.now) }
     {
         let (from, upto) = span_of(&self.ends, n);
-        part_of(&self.texts, from, upto)
+        items_between(&self.texts, from, upto)
     }
 }

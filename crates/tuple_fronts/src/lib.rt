@@ -14,7 +14,6 @@
 //! ```
 #![tactic(auto)]
 
-mod faults;
 mod front_sink;
 mod fronts;
 mod kept;
@@ -22,6 +21,5 @@ mod loading;
 mod reading;
 mod runs;
 
-pub use faults::FrontsFault;
 pub use fronts::TupleFronts;
 pub use reading::MOST_ELEMENTS;

@@ -1,21 +1,20 @@
 // Reading the lines of cells.
 ghost use Rattle.std.specs.Prelude.{◌+◌, ◌≤◌, None, length, map, OnOk, IfOk, IfErr};
 ghost use Rattle.dump_io.specs.Dumps.{ReadsAtMost};
+ghost use Rattle.dump_io.specs.Faults.{IsReadCauseOf};
 ghost use Rattle.dump_sections.specs.Bodies.{body_size, section_in, IsPlaceIn};
 ghost use Rattle.dump_sections.specs.Index.{IsBuiltOver};
 ghost use Rattle.heap_cells.specs.Loading.{enc_of};
-ghost use Rattle.tuple_fronts.specs.Loading.{IsFrontsCauseOf};
 ghost use Rattle.tuple_fronts.specs.Inner.Kept.{Keeps};
 ghost use Rattle.std.specs.List.Sorted.{IsStrictlyIncreasing};
 ghost use Rattle.tuple_fronts.specs.Inner.Hearing.{HasCells, HearsSection, IsSplitAt, KeepsSection, KeepsSections};
 
-use crate::faults::FrontsFault;
 use crate::front_sink::FrontSink;
 use crate::kept::Kept;
 use crate::runs::cells_behind;
 use body_lines::{WholeLinesFault, hear_whole_lines};
 use cell_words::Weighed;
-use dump_io::Dumps;
+use dump_io::{Dumps, ReadFault};
 use dump_sections::Index;
 use heap_cells::enc_of;
 use heap_skeleton::Skeleton;
@@ -28,22 +27,22 @@ fn hear_section<D: Dumps>(
     place: Option<usize>,
     buffer: &mut Vec<u8>,
     sink: &mut FrontSink<'_>,
-) -> Result<(), FrontsFault>
+) -> Result<(), ReadFault>
     requires over { IsBuiltOver (D.state dumps.old).now index.now }
     requires place { IsPlaceIn index.now place }
     requires cells { HasCells sink.old.skeleton.now sink.old.cells.now }
     ensures reads { ReadsAtMost (D.state dumps.old) (D.state dumps.new)
         (body_size (section_in index.now place)) }
-    ensures fault { IfErr result (IsFrontsCauseOf (D.state dumps.old) (D.state dumps.new)) }
+    ensures fault { IfErr result (IsReadCauseOf (D.state dumps.old) (D.state dumps.new)) }
     ensures hears { OnOk result (HearsSection sink.old sink.new
         (D.state dumps.old).now (section_in index.now place)) }
 {
     let (from, upto) = index.body_at(place);
     match hear_whole_lines(dumps, from, upto, buffer, sink) {
         Ok(()) => Ok(()),
-        Err(WholeLinesFault::Read) => Err(FrontsFault::Read),
-        Err(WholeLinesFault::Memory) => Err(FrontsFault::Memory),
-        Err(WholeLinesFault::Stopped(_)) => Err(FrontsFault::Memory),
+        Err(WholeLinesFault::Read) => Err(ReadFault::Read),
+        Err(WholeLinesFault::Memory) => Err(ReadFault::Memory),
+        Err(WholeLinesFault::Stopped(_)) => Err(ReadFault::Memory),
     }
 }
 
@@ -66,13 +65,13 @@ pub(crate) fn keep_section<D: Dumps>(
     cells: &[u32],
     buffer: &mut Vec<u8>,
     kept: Kept,
-) -> Result<Kept, FrontsFault>
+) -> Result<Kept, ReadFault>
     requires over { IsBuiltOver (D.state dumps.old).now index.now }
     requires place { IsPlaceIn index.now place }
     requires cells { HasCells skeleton.now cells.now }
     ensures reads { ReadsAtMost (D.state dumps.old) (D.state dumps.new)
         (body_size (section_in index.now place)) }
-    ensures fault { IfErr result (IsFrontsCauseOf (D.state dumps.old) (D.state dumps.new)) }
+    ensures fault { IfErr result (IsReadCauseOf (D.state dumps.old) (D.state dumps.new)) }
     ensures keeps { IfOk result (KeepsSection skeleton.now (enc_of index.now.version)
         (D.state dumps.old).now (section_in index.now place) cells.now kept) }
 {
@@ -110,7 +109,7 @@ pub(crate) fn keep_fronts<D: Dumps>(
     literals: Option<usize>,
     skeleton: &Skeleton,
     cells: &[u32],
-) -> Result<Kept, FrontsFault>
+) -> Result<Kept, ReadFault>
     requires over { IsBuiltOver (D.state dumps.old).now index.now }
     requires heap { IsPlaceIn index.now heap }
     requires literals { IsPlaceIn index.now literals }
@@ -118,7 +117,7 @@ pub(crate) fn keep_fronts<D: Dumps>(
     requires ascending { IsStrictlyIncreasing cells.now }
     ensures reads { ReadsAtMost (D.state dumps.old) (D.state dumps.new)
         (body_size (section_in index.now heap) + body_size (section_in index.now literals)) }
-    ensures fault { IfErr result (IsFrontsCauseOf (D.state dumps.old) (D.state dumps.new)) }
+    ensures fault { IfErr result (IsReadCauseOf (D.state dumps.old) (D.state dumps.new)) }
     ensures keeps { IfOk result (KeepsSections skeleton.now (enc_of index.now.version)
         (D.state dumps.old).now (section_in index.now heap) (section_in index.now literals) cells.now) }
 {

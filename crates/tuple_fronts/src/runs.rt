@@ -2,20 +2,14 @@
 ghost use Rattle.std.specs.Prelude.{◌≡◌, ◌+◌, ◌-◌, ◌<◌, ◌≤◌, ◌^◌, drop, length, OnOk, IfOk};
 ghost use Rattle.body_lines.specs.Lines.{lines_at};
 ghost use Rattle.tuple_fronts.specs.Inner.Kept.{Keeps};
-ghost use Rattle.tuple_fronts.specs.Inner.Hearing.{HasCells, KeepsNext, is_tuple, known_of, left_behind};
+ghost use Rattle.tuple_fronts.specs.Inner.Hearing.{HasCells, KeepsNext, known_of, left_behind};
 
 use crate::kept::Kept;
 use crate::reading::keep_line;
 use dump_io::{bytes_from, line_len};
-use heap_skeleton::{Kind, Skeleton};
+use heap_skeleton::Skeleton;
 use std::alloc::AllocError;
 use term_forms::Enc;
-
-fn is_tuple(kind: Option<Kind>) -> bool
-    ensures { result ≡ is_tuple kind }
-{
-    matches!(kind, Some(Kind::Tuple))
-}
 
 // Keeps the front of a cell if its line begins within the rest of a run, the first line of which begins at
 // an offset. Returns how many bytes of the rest end with its line.
@@ -30,14 +24,15 @@ fn keep_next(
     requires { cell < length skeleton.now.addresses }
     ensures { IfOk result (KeepsNext skeleton.now enc cell line rest.now kept.old kept.new) }
 {
+    skeleton.leads_are_cells();
     let place = skeleton.line(cell).saturating_sub(line);
     if place >= rest.len() as u64 {
         return Ok(None);
     }
     let place = place as usize;
     let size = line_len(&rest[place..]);
-    let is_tuple = is_tuple(skeleton.kind(cell));
-    keep_line(kept, &rest[place..place + size], enc, is_tuple)?;
+    let line = &rest[place..place + size];
+    keep_line(kept, line, enc, skeleton.is_tuple(cell))?;
     Ok(Some(place + size))
 }
 

@@ -3,13 +3,13 @@ use Rattle.std.proofs.Common.{◌≡◌, ℕ, zero, suc, ◌<◌, ◌==◌, ◌�
 use Rattle.std.specs.Prelude.{slice_get, slice_index_or}
 use Rattle.std.specs.Option.{option_and_then, option_map}
 use Rattle.std.proofs.lemmas.List.{length-map}
-use Rattle.std.proofs.lemmas.List.Quantifiers.{position-Some}
 use Rattle.std.proofs.lemmas.Option.{none-some, same_Some, slice_get-map}
 use Rattle.std.proofs.lemmas.Simd.{map-map}
 use Rattle.term_forms.specs.Elements.{Element, Ref}
 use Rattle.term_forms.specs.Forms.{HeapForm, HeapBin, SubBin}
 use Rattle.heap_cells.specs.Cells.{Cell, elements_in}
 use Rattle.heap_cells.specs.HeapMap.{form_at, number_at}
+use Rattle.heap_cells.specs.Laws.Cells.{number_at-within}
 use Rattle.cell_records.specs.declared.cells.Slot.{Slot}
 use Rattle.heap_cells.specs.Targets.{slot_target, target, target_at, targets_at}
 use Rattle.cell_graphs.specs.Graphs.{LeadsWithin, bin_at, bin_in, cell_in, graph_of, places_at, places_of}
@@ -30,12 +30,9 @@ cells-of cells = length-map cells (λ cell. places_of cells cell.form)
 
 -- ---- they lead to cells of the heap
 
-number-within : (cells : List Cell) (address n : ℕ) → number_at cells address ≡ Some n → n < length cells
-number-within cells address n is = (position-Some (λ cell. cell.address == address) cells n (record { address = 0; form = None }) is).0
-
 found-within : (cells : List Cell) (address n : ℕ) (o : Option ℕ) → number_at cells address ≡ o → cell_in (target_at address o) ≡ Some n → n < length cells
 found-within cells address n None at is = absurd (none-some n is)
-found-within cells address n (Some m) at is = number-within cells address n (at ∙ is)
+found-within cells address n (Some m) at is = number_at-within cells address n (at ∙ is)
 
 target-within : (cells : List Cell) (e : Element) (n : ℕ) → cell_in (target cells e) ≡ Some n → n < length cells
 target-within cells (Ref address) n is = found-within cells address n (number_at cells address) refl is
@@ -53,7 +50,7 @@ bin-same m n o is = absurd (none-some n is)
 
 bin-within : (cells : List Cell) (address n : ℕ) (o : Option ℕ) → number_at cells address ≡ o → option_and_then (λ m. bin_in m (form_at cells m)) o ≡ Some n → n < length cells
 bin-within cells address n None at is = absurd (none-some n is)
-bin-within cells address n (Some m) at is = number-within cells address n (at ∙ ap Some (bin-same m n (form_at cells m) is))
+bin-within cells address n (Some m) at is = number_at-within cells address n (at ∙ ap Some (bin-same m n (form_at cells m) is))
 
 form-within : (cells : List Cell) (o : Option HeapForm) (k n : ℕ) → slice_get (places_of cells o) k ≡ Some (Some n) → n < length cells
 form-within cells (Some (SubBin address offset size)) zero n is =

@@ -1,23 +1,16 @@
 -- Why a command ended without its whole report, and how its run ends.
+use Rattle.dump_io.specs.declared.faults.ReadFault.TheVariants as read_faults
 use Rattle.dump_sections.specs.declared.bodies.BodyFault.TheVariants as body_faults
 use Rattle.section_index.specs.declared.opening.OpenFault.TheVariants as open_faults
-use Rattle.binary_holders.specs.declared.faults.HolderFault.TheVariants as holder_faults
-use Rattle.process_stacks.specs.declared.faults.StackFault.TheVariants as stack_faults
 use Rattle.dump_redact.specs.declared.faults.RedactFault.TheVariants as redact_faults
 use Rattle.json_report.specs.declared.putting.JsonFault.TheVariants as json_faults
 use Rattle.binary_refs.specs.declared.faults.PreviewFault.TheVariants as preview_faults
 use Rattle.heap_cells.specs.declared.faults.HeapFault.TheVariants as heap_faults
-use Rattle.heap_lines.specs.declared.faults.TableFault.TheVariants as table_faults
-use Rattle.heap_parts.specs.declared.faults.PartFault.TheVariants as part_faults
-use Rattle.root_lines.specs.declared.faults.RootsFault.TheVariants as roots_faults
-use Rattle.part_weights.specs.declared.faults.WeightsFault.TheVariants as weights_faults
-use Rattle.message_shapes.specs.declared.faults.ShapesFault.TheVariants as shapes_faults
 use Rattle.std.specs.Prelude.{◌≡◌, ℕ, Result, Ok, Err, Option, None, Some}
+use Rattle.dump_io.specs.declared.faults.ReadFault.{ReadFault}
 use Rattle.dump_sections.specs.declared.bodies.BodyFault.{BodyFault}
 use Rattle.dump_sections.specs.declared.bodies.LargeSection.{LargeSection}
 use Rattle.section_index.specs.declared.opening.OpenFault.{OpenFault}
-use Rattle.binary_holders.specs.declared.faults.HolderFault.{HolderFault}
-use Rattle.process_stacks.specs.declared.faults.StackFault.{StackFault}
 use Rattle.dump_redact.specs.declared.faults.RedactFault.{RedactFault}
 use Rattle.report_text.specs.declared.refusals.Refusal.TheVariants.{Open, SectionTooLarge, TooDense}
 use Rattle.report_text.specs.Refusals.{IsRefusal, refusal_line}
@@ -25,11 +18,6 @@ use Rattle.json_report.specs.declared.putting.JsonFault.{JsonFault}
 use Rattle.dump_io.specs.Sinks.{SinkState, IsKept}
 use Rattle.binary_refs.specs.declared.faults.PreviewFault.{PreviewFault}
 use Rattle.heap_cells.specs.declared.faults.HeapFault.{HeapFault}
-use Rattle.heap_lines.specs.declared.faults.TableFault.{TableFault}
-use Rattle.heap_parts.specs.declared.faults.PartFault.{PartFault}
-use Rattle.root_lines.specs.declared.faults.RootsFault.{RootsFault}
-use Rattle.part_weights.specs.declared.faults.WeightsFault.{WeightsFault}
-use Rattle.message_shapes.specs.declared.faults.ShapesFault.{ShapesFault}
 use Rattle.report_text.specs.declared.refusals.Refusal.{Refusal}
 use Rattle.dump_command.specs.Report.{large_refusal}
 use Rattle.dump_command.specs.Run.{EndsTold}
@@ -57,20 +45,15 @@ abbrev pub stop_of_json : JsonFault → Stop
 stop_of_json json_faults.Write = NotWritten
 stop_of_json json_faults.Memory = NoMemory
 
+-- the stop of a command that refuses nothing of what it reads
+abbrev pub stop_of_reading : ReadFault → Stop
+stop_of_reading read_faults.Read = NotRead
+stop_of_reading read_faults.Memory = NoMemory
+
 -- what was loaded, or the stop of the command
 abbrev pub or_stop : {T : Type 0} → Result T BodyFault → Result T Stop
 or_stop (Ok value) = Ok value
 or_stop (Err fault) = Err (stop_of_body fault)
-
--- the stop of a command for which the holders of binaries aren't found
-abbrev pub stop_of_holders : HolderFault → Stop
-stop_of_holders holder_faults.Read = NotRead
-stop_of_holders holder_faults.Memory = NoMemory
-
--- the stop of a command for which the stacks of processes aren't gathered
-abbrev pub stop_of_stacks : StackFault → Stop
-stop_of_stacks stack_faults.Read = NotRead
-stop_of_stacks stack_faults.Memory = NoMemory
 
 -- the stop of `redact`
 abbrev pub stop_of_redact : RedactFault → Stop
@@ -110,31 +93,6 @@ stop_of_heap (heap_faults.TooDense count) = Refused (TooDense count)
 abbrev pub stop_of_previews : PreviewFault → Stop
 stop_of_previews preview_faults.Read = NotRead
 stop_of_previews preview_faults.Memory = NoMemory
-
--- the stop of a command for which the lines of a heap aren't found
-abbrev pub stop_of_table : TableFault → Stop
-stop_of_table table_faults.Read = NotRead
-stop_of_table table_faults.Memory = NoMemory
-
--- the stop of a command for which a part of a heap isn't loaded; one that is too large or too dense counts as want of memory
-abbrev pub stop_of_part : PartFault → Stop
-stop_of_part part_faults.Read = NotRead
-stop_of_part fault = NoMemory
-
--- the stop of a command for which roots aren't found
-abbrev pub stop_of_roots : RootsFault → Stop
-stop_of_roots roots_faults.Read = NotRead
-stop_of_roots roots_faults.Memory = NoMemory
-
--- the stop of a command for which the parts of a heap aren't weighed
-abbrev pub stop_of_weights : WeightsFault → Stop
-stop_of_weights weights_faults.Read = NotRead
-stop_of_weights weights_faults.Memory = NoMemory
-
--- the stop of a command for which the shapes of messages aren't found
-abbrev pub stop_of_shapes : ShapesFault → Stop
-stop_of_shapes shapes_faults.Read = NotRead
-stop_of_shapes shapes_faults.Memory = NoMemory
 
 -- if there is no cause of a refusal, the command goes on, and otherwise
 -- it is refused for that cause; memory may be lacking at any time

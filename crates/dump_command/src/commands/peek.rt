@@ -3,11 +3,12 @@ ghost use Rattle.std.specs.Prelude.{◌≡◌, ◌-◌, ◌<◌, ◌++◌, map, 
 ghost use Rattle.binary_refs.specs.Previews.{AreFor};
 ghost use Rattle.command_words.specs.Command.{peek_roots, peek_term, IsAskInRange};
 ghost use Rattle.dump_io.specs.Dumps.{ReadsAtMost};
+ghost use Rattle.dump_io.specs.Faults.{IsReadCauseOf};
 ghost use Rattle.dump_sections.specs.Bodies.{body_size, section_in, IsPlaceIn};
 ghost use Rattle.dump_sections.specs.Index.{IsBuiltOver};
 ghost use Rattle.heap_lines.specs.Wholes.{is_known, HasLines, ServesLines};
 ghost use Rattle.root_views.specs.Seen.{content};
-ghost use Rattle.root_lines.specs.Shown.{IsPlaced, IsRootsCauseOf};
+ghost use Rattle.root_lines.specs.Shown.{IsPlaced};
 ghost use Rattle.term_forms.specs.Seen.{element};
 ghost use Rattle.root_views.specs.Roots.{term_in};
 ghost use Rattle.term_text.specs.Reach.{root_elements};
@@ -22,12 +23,12 @@ use crate::report::Report;
 use crate::status::DONE;
 use crate::stop::Stop;
 use binary_refs::Previews;
-use dump_io::{Dumps, Sink};
+use dump_io::{Dumps, ReadFault, Sink};
 use heap_cells::Heap;
 use heap_lines::HeapLines;
 use heap_parts::load_part;
 use report_text::Refusal;
-use root_lines::{RootsFault, ShownRoots};
+use root_lines::ShownRoots;
 use root_views::{Root, RootKind, What};
 use std::alloc::{AllocError, Global};
 use term_forms::shapes::Elem;
@@ -159,12 +160,12 @@ fn read_roots<D: Dumps>(
     dumps: &mut D,
     place: Option<usize>,
     roots: &PeekRoots<'_>,
-) -> Result<(ShownRoots, u64), RootsFault>
+) -> Result<(ShownRoots, u64), ReadFault>
     requires over { IsBuiltOver (D.state dumps.old).now at.now.index.now }
     requires place { IsPlaceIn at.now.index.now place }
     ensures reads { ReadsAtMost (D.state dumps.old) (D.state dumps.new)
         (body_size (section_in at.now.index.now place)) }
-    ensures fault { IfErr result (IsRootsCauseOf (D.state dumps.old) (D.state dumps.new)) }
+    ensures fault { IfErr result (IsReadCauseOf (D.state dumps.old) (D.state dumps.new)) }
     ensures roots { let found = section_in at.now.index.now place in IfOk result
         (AreRootsFound (D.state dumps.old).now found roots.now.kind roots.now.first roots.now.count) }
 {

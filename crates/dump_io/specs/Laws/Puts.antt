@@ -4,7 +4,7 @@ use Rattle.std.specs.Prelude.{IsErr}
 use Rattle.std.specs.List.{flat_map}
 use Rattle.std.proofs.lemmas.List.{take-append-le, take_all}
 use Rattle.std.proofs.Math.Seq.{take-append-add}
-use Rattle.dump_io.specs.Sinks.{SinkState, grown, GainsFront, WritesAll, Puts, HasPut}
+use Rattle.dump_io.specs.Sinks.{SinkState, grown, GainsFront, WritesAll, Puts, HasPut, HasPutPart}
 
 -- two texts in a row are one text, and an empty text changes nothing
 pub grown-grown : (w : Option (List ℕ)) (xs ys : List ℕ) → grown (grown w xs) ys ≡ grown w (xs ++ ys)
@@ -118,6 +118,27 @@ HasPut-whole put = record { later = put.later; writes = record { whole = put.gai
 pub Puts-behind : {T E : Type 0} {a b c : SinkState} {xs ys : List ℕ} {r : Result T E} → HasPut a b xs → Puts b c ys r → Puts a c (xs ++ ys) r
 Puts-behind {a = a} {b = b} {xs = xs} first second =
     let done : Puts {T = Unit {0}} {E = Unit {0}} a b xs (Ok tt) = HasPut-whole first in Puts-then done second
+
+-- nothing was put of a text yet
+pub HasPutPart-none : {a : SinkState} (whole : List ℕ) → HasPutPart a a whole whole
+HasPutPart-none whole = record { part = []; put = HasPut-none; splits = refl }
+
+-- a part behind a part
+pub HasPutPart-next : {a b c : SinkState} (whole later last : List ℕ) → HasPutPart a b whole later → HasPutPart b c later last → HasPutPart a c whole last
+HasPutPart-next whole later last first second =
+    record {
+      part = first.part ++ second.part;
+      put = HasPut-both first.put second.put;
+      splits = first.splits ∙ ap (λ l. first.part ++ l) second.splits ∙ sym (append_assoc first.part second.part last);
+    }
+
+-- the rest, behind a part that was put
+pub HasPutPart-rest : {T E : Type 0} {a b c : SinkState} (whole later : List ℕ) (r : Result T E) → HasPutPart a b whole later → Puts b c later r → Puts a c whole r
+HasPutPart-rest whole later r part puts = Puts-as (sym part.splits) (Puts-behind part.put puts)
+
+-- nothing is still to come
+pub HasPutPart-whole : {T E : Type 0} {a b : SinkState} (whole : List ℕ) (x : T) → HasPutPart a b whole [] → Puts {E = E} a b whole (Ok x)
+HasPutPart-whole whole x part = Puts-as (sym (append-nil part.part) ∙ sym part.splits) (HasPut-whole part.put)
 
 -- A text for each element of a list: the texts before a place, the one at it, and those after it.
 

@@ -1,7 +1,7 @@
 -- What is still to be written.
 use Rattle.std.specs.Prelude.{◌≡◌, ℕ, suc, ◌+◌, ◌≤◌, List, [], ◌∷◌, ◌++◌, ◌==◌, length, Result, MatchResult, OnErr, if◌then◌else◌}
 use Rattle.std.specs.Borrow.{Bor}
-use Rattle.dump_io.specs.Sinks.{SinkState, SinkFailed, GainedFront, HasPut}
+use Rattle.dump_io.specs.Sinks.{SinkState, SinkFailed, GainedFront, HasPutPart}
 use Rattle.etf_terms.specs.declared.stack.Entry.{Entry}
 use Rattle.etf_terms.specs.Depth.{deepest}
 use Rattle.etf_terms.specs.Heads.{Head, kids}
@@ -34,17 +34,11 @@ Stands room (e ∷ es) rest to_come =
     × (count terms + e.next ≡ e.kids) × (to_come ≡ inner e.kind e.kids e.next terms ++ below)
     × (suc (length es) + deepest terms ≤ room) × Stands room es behind below
 
--- a part of the whole text was written, and the rest is still to come
-pub record IsPart (before after : SinkState) (whole to_come : List ℕ) : Type 0 where
-  pub part : List ℕ
-  pub put : HasPut before after part
-  pub splits : whole ≡ part ++ to_come
-
 -- a part was written and the rest comes after it, or it failed somewhere in the whole
 pub record Moves {E : Type 0} (before after : SinkState) (whole : List ℕ) (room : ℕ) (entries : List Entry) (result : Result (Bor (List ℕ)) E) : Type 0 where
   pub later : before.faults ≤ after.faults
   pub writes : MatchResult result
-      (λ rest. (to_come : List ℕ) × IsPart before after whole to_come × Stands room entries rest.now to_come)
+      (λ rest. (to_come : List ℕ) × HasPutPart before after whole to_come × Stands room entries rest.now to_come)
       (λ _. GainedFront before after whole)
   pub failed : OnErr result (SinkFailed before after)
 

@@ -7,13 +7,6 @@ use Rattle.term_forms.specs.declared.shapes.Elem.{Elem}
 use Rattle.heap_cells.specs.Cells.{Cell, line_cells}
 use Rattle.term_unfold.specs.Parts.{gap_of}
 use Rattle.heap_parts.specs.Firsts.{AreFirstLines, MayGrow}
-use Rattle.heap_parts.specs.declared.faults.PartFault.{PartFault}
-use Rattle.heap_parts.specs.declared.faults.PartFault.TheVariants.{Read}
-
--- a fault that isn't the device's
-abbrev pub IsOwnFault : PartFault → Type 0
-IsOwnFault Read = ⊥
-IsOwnFault fault = Unit {0}
 
 -- lines were appended to a text: no more than 16 bytes were read for each byte of them, and more may be
 -- appended; if the text's lines were first lines of the whole heap, they still are

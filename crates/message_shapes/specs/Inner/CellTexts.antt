@@ -5,11 +5,11 @@ use Rattle.cell_graphs.specs.Graphs.{places_at}
 use Rattle.cell_parts.specs.Kinds.{cell_kind}
 use Rattle.cell_records.specs.declared.cells.Kind.{Kind}
 use Rattle.cell_records.specs.declared.cells.Kind.TheVariants as kind
-use Rattle.heap_skeleton.specs.Skeletons.{SkeletonMap}
+use Rattle.heap_skeleton.specs.Skeletons.{SkeletonMap, is_tuple}
 use Rattle.term_forms.specs.Elements.{Element, Ref}
 use Rattle.message_shapes.specs.Shapes.{comma_list, tag_text, tag_texts}
 use Rattle.message_shapes.specs.Inner.Telling.{cell_with, plain_shape}
-use Rattle.message_shapes.specs.Inner.Tuples.{TupleMap, front_at, is_tuple}
+use Rattle.message_shapes.specs.Inner.Tuples.{TupleMap, front_at}
 
 -- the shape of a cell of this kind, which is no tuple
 abbrev pub kind_text : Option Kind → List ℕ

@@ -1,11 +1,8 @@
 -- The tuples whose first elements are known.
-use Rattle.std.specs.Prelude.{ℕ, ◌==◌, List, [], ◌∷◌, take, flat_map, position, slice_index_or, Bool, true, false, Option, Some, if◌then◌else◌}
+use Rattle.std.specs.Prelude.{ℕ, ◌==◌, List, [], ◌∷◌, take, flat_map, position, slice_index_or, Option, if◌then◌else◌}
 use Rattle.std.specs.Option.{option_map_or}
 use Rattle.cell_graphs.specs.Graphs.{places_at}
-use Rattle.cell_parts.specs.Kinds.{cell_kind}
-use Rattle.cell_records.specs.declared.cells.Kind.{Kind}
-use Rattle.cell_records.specs.declared.cells.Kind.TheVariants as kind
-use Rattle.heap_skeleton.specs.Skeletons.{SkeletonMap}
+use Rattle.heap_skeleton.specs.Skeletons.{SkeletonMap, is_tuple}
 use Rattle.term_forms.specs.Elements.{Element}
 
 -- the place of a number in a list
@@ -22,15 +19,6 @@ abbrev pub front_at : TupleMap → ℕ → List Element
 front_at tuples cell = option_map_or (λ i. slice_index_or tuples.fronts i []) (place_of tuples.cells cell) []
 
 -- ---- which are needed
-
--- a kind is that of tuples
-abbrev pub is_tuple_kind : Option Kind → Bool
-is_tuple_kind (Some kind.Tuple) = true
-is_tuple_kind other = false
-
--- a cell is a tuple
-abbrev pub is_tuple : SkeletonMap → ℕ → Bool
-is_tuple s cell = is_tuple_kind (cell_kind s.kinds cell)
 
 -- a cell, if it is a tuple
 abbrev pub tuple_or_none : SkeletonMap → ℕ → List ℕ

@@ -1,18 +1,12 @@
 -- How far a call has come in a text that is written in steps.
 use Rattle.std.specs.Prelude.{◌≡◌, ℕ, ◌+◌, ◌*◌, ◌<◌, ◌≤◌, List, ◌++◌, length, Result, Ok, Err, MatchResult, IfOk, OnErr}
-use Rattle.dump_io.specs.Sinks.{SinkState, SinkFailed, GainedFront, HasPut}
+use Rattle.dump_io.specs.Sinks.{SinkState, SinkFailed, GainedFront, HasPutPart}
 use Rattle.term_unfold.specs.declared.path.Entry.{Entry}
-
--- a part of the whole text was written, and the rest is still to come
-pub record IsPart (before after : SinkState) (whole to_come : List ℕ) : Type 0 where
-  pub part : List ℕ
-  pub put : HasPut before after part
-  pub splits : whole ≡ part ++ to_come
 
 -- a step wrote a part and returns the count that remains, or it failed somewhere in the whole
 pub record Steps {E : Type 0} (before after : SinkState) (whole : List ℕ) (to_come : ℕ → List ℕ) (result : Result ℕ E) : Type 0 where
   pub later : before.faults ≤ after.faults
-  pub writes : MatchResult result (λ m. IsPart before after whole (to_come m)) (λ _. GainedFront before after whole)
+  pub writes : MatchResult result (λ m. HasPutPart before after whole (to_come m)) (λ _. GainedFront before after whole)
   pub failed : OnErr result (SinkFailed before after)
 
 -- the remaining count, if a text was written

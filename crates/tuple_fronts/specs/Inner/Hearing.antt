@@ -4,13 +4,11 @@ use Rattle.std.specs.List.Sorted.{IsPartitionPoint}
 use Rattle.std.specs.Option.{option_and_then}
 use Rattle.binary_payloads.specs.declared.enc.Enc.{Enc}
 use Rattle.body_lines.specs.Lines.{lines_at}
-use Rattle.cell_records.specs.declared.cells.Kind.{Kind}
-use Rattle.cell_records.specs.declared.cells.Kind.TheVariants as kind
 use Rattle.dump_io.specs.Dumps.{Now, IfTold}
 use Rattle.dump_io.specs.Lines.{Line, raw_lines, text_of}
 use Rattle.dump_sections.specs.Bodies.{body_in, body_start}
 use Rattle.dump_sections.specs.Sections.{Section}
-use Rattle.heap_skeleton.specs.Skeletons.{SkeletonMap}
+use Rattle.heap_skeleton.specs.Skeletons.{SkeletonMap, is_tuple}
 use Rattle.term_forms.specs.Elements.{Element}
 use Rattle.term_forms.specs.Forms.{HeapForm, Tuple}
 use Rattle.term_forms.specs.ReadingForms.{form_of}
@@ -20,11 +18,6 @@ use Rattle.tuple_fronts.specs.declared.kept.Kept.{Kept}
 use Rattle.tuple_fronts.specs.Inner.Kept.{IsKept, Keeps}
 
 -- ---- one line
-
--- a cell is a tuple
-abbrev pub is_tuple : Option Kind → Bool
-is_tuple (Some kind.Tuple) = true
-is_tuple other = false
 
 -- the elements of a tuple, if the form is one
 abbrev pub tuple_elements : Option HeapForm → Option (List Element)
@@ -40,10 +33,6 @@ known_elements enc false raw = Some []
 abbrev pub line_of : SkeletonMap → ℕ → ℕ
 line_of s cell = slice_index_or s.lines cell 0
 
--- whether it is a tuple
-abbrev pub is_tuple_at : SkeletonMap → ℕ → Bool
-is_tuple_at s cell = is_tuple (slice_index_or s.kinds cell None)
-
 -- ---- several lines
 
 -- the cells that are left behind a line: the first of them is taken if its line begins before the end of this one
@@ -56,7 +45,7 @@ abbrev pub known_line : SkeletonMap → Enc → Line → List ℕ → List (Opti
 known_line s enc line [] = []
 known_line s enc line (cell ∷ cells) =
     if nat_lt (line_of s cell) (line.at + length line.raw)
-    then known_elements enc (is_tuple_at s cell) (drop (line_of s cell - line.at) line.raw) ∷ [] else []
+    then known_elements enc (is_tuple s cell) (drop (line_of s cell - line.at) line.raw) ∷ [] else []
 
 -- the cells that are left behind several lines
 abbrev pub left_behind : SkeletonMap → List Line → List ℕ → List ℕ
@@ -92,7 +81,7 @@ KeepsNext s enc cell line rest old new None = (new ≡ old) × (length rest ≤ 
 KeepsNext s enc cell line rest old new (Some size) =
     (raw : List ℕ) × (raw_lines (drop (line_of s cell - line) rest) ≡ raw ∷ raw_lines (drop size rest))
     × (size ≡ (line_of s cell - line) + length raw) × (0 < length raw) × (size ≤ length rest)
-    × Keeps old new (known_elements enc (is_tuple_at s cell) raw ∷ [])
+    × Keeps old new (known_elements enc (is_tuple s cell) raw ∷ [])
 
 -- the lines of the body of a section
 abbrev pub section_lines : List ℕ → Option Section → List Line

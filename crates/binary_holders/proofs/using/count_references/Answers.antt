@@ -14,29 +14,29 @@ use Rattle.binary_holders.proofs.using.count_references.Goals as goal
 
 pub returns-in_err-held-clause-reads : goal.returns-in_err-held-clause-reads
 returns-in_err-held-clause-reads g c =
-    ReadsAtMost-within (fits c.args.index.now c.args.procs.now.processes c.in-Ok.heaps.items c.as_slice.result.now c.in-Ok.ensures.places c.as_slice.ensures.value) c.in_err-held.ensures.reads
+    ReadsAtMost-within (fits c.args.index.now c.args.procs.now.processes c.in_ok-heaps.heaps.items c.as_slice.result.now c.in_ok-heaps.ensures.places c.as_slice.ensures.value) c.in_err-held.ensures.reads
 
 pub returns-clause-reads : goal.returns-clause-reads
 returns-clause-reads g c =
-    ReadsAtMost-within (fits c.args.index.now c.args.procs.now.processes c.in-Ok.heaps.items c.as_slice.result.now c.in-Ok.ensures.places c.as_slice.ensures.value) c.in_ok-held.ensures.reads
+    ReadsAtMost-within (fits c.args.index.now c.args.procs.now.processes c.in_ok-heaps.heaps.items c.as_slice.result.now c.in_ok-heaps.ensures.places c.as_slice.ensures.value) c.in_ok-held.ensures.reads
 
 pub returns-clause-held : goal.returns-clause-held
 returns-clause-held g c = λ dump is.
     c.in_ok-held.ensures.held dump is
     ∙ ap (λ l. holdings c.args.targets.now (map (numbers_at dump c.args.index.now) l)) c.as_slice.ensures.value
-    ∙ ap (holdings c.args.targets.now) (heaps-are dump c.args.index.now c.args.procs.now.processes c.in-Ok.heaps.items c.in-Ok.ensures.places)
+    ∙ ap (holdings c.args.targets.now) (heaps-are dump c.args.index.now c.args.procs.now.processes c.in_ok-heaps.heaps.items c.in_ok-heaps.ensures.places)
 
 pub returns-clause-counted : goal.returns-clause-counted
 returns-clause-counted g c = λ dump is.
     subst (λ l. HasCounted c.args.targets.now l [] c.count_all.new.sink.counts)
-    (ap (map (numbers_at dump c.args.index.now)) c.as_slice.ensures.value ∙ heaps-are dump c.args.index.now c.args.procs.now.processes c.in-Ok.heaps.items c.in-Ok.ensures.places)
+    (ap (map (numbers_at dump c.args.index.now)) c.as_slice.ensures.value ∙ heaps-are dump c.args.index.now c.args.procs.now.processes c.in_ok-heaps.heaps.items c.in_ok-heaps.ensures.places)
     (c.in_ok-held.ensures.counted dump is)
 
 pub returns-clause-named : goal.returns-clause-named
 returns-clause-named g c =
     let processes = c.args.procs.now.processes in
     let size : length c.as_slice.result.now ≡ length processes =
-    ap length (c.as_slice.ensures.value ∙ c.in-Ok.ensures.places) ∙ length-map processes (λ (p : Process). heap_place (sections_in c.args.index.now) p.pid) in
+    ap length (c.as_slice.ensures.value ∙ c.in_ok-heaps.ensures.places) ∙ length-map processes (λ (p : Process). heap_place (sections_in c.args.index.now) p.pid) in
     subst (λ n. All (NamesProcess n) c.in_ok-held.held.items) size c.in_ok-held.ensures.named
 
 pub returns-clause-lines : goal.returns-clause-lines
@@ -44,4 +44,4 @@ returns-clause-lines g c = λ dump is.
     let index = c.args.index.now in
     c.in_ok-held.ensures.lines dump is
     ∙ ap (λ l. whole_lines c.args.targets.now (flat_map (references_at dump index) l)) c.as_slice.ensures.value
-    ∙ ap (whole_lines c.args.targets.now) (lines-are dump index c.args.procs.now.processes c.in-Ok.heaps.items c.in-Ok.ensures.places)
+    ∙ ap (whole_lines c.args.targets.now) (lines-are dump index c.args.procs.now.processes c.in_ok-heaps.heaps.items c.in_ok-heaps.ensures.places)

@@ -1,8 +1,9 @@
 use Rattle.std.proofs.Common.{◌∷◌, ap, sym, ◌∙◌, subst}
+use Rattle.dump_io.specs.Laws.Puts.{HasPutPart-none}
 use Rattle.etf_terms.specs.Text.{text}
 use Rattle.etf_terms.specs.Inner.Open.{Open}
 use Rattle.etf_terms.specs.Inner.Standing.{Stands}
-use Rattle.etf_terms.proofs.Stands.{root_entry, stands-root, stands-popped, IsPart-none, moves-on, moves-broken}
+use Rattle.etf_terms.proofs.Stands.{root_entry, stands-root, stands-popped, moves-on, moves-broken}
 use Rattle.etf_terms.proofs.printing.put_term.Goals as goal
 
 pub loop-entry-init : goal.loop-entry-init
@@ -13,7 +14,7 @@ loop-entry-init g c =
       room = room;
       stands = λ term p. (
         text term,
-        IsPart-none (text term),
+        HasPutPart-none (text term),
         subst (λ es. Stands c.push.new.self.room es c.args.bytes.now (text term)) (sym entries)
             (stands-root term c.args.bytes.now c.push.new.self.room p (room ∙ c.requires.exact term p)),
       );

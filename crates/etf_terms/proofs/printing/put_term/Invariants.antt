@@ -1,7 +1,8 @@
 use Rattle.std.proofs.Common.{◌≡◌, ◌+◌, ◌*◌, List, ℕ, length}
 use Rattle.etf_terms.specs.Terms.{Term, IsTerm}
 use Rattle.etf_terms.specs.Text.{text}
-use Rattle.etf_terms.specs.Inner.Standing.{Stands, IsPart}
+use Rattle.dump_io.specs.Sinks.{HasPutPart}
+use Rattle.etf_terms.specs.Inner.Standing.{Stands}
 use Rattle.etf_terms.proofs.printing.put_term.Given as goal
 
 -- what was written, and what the entries still have to write, are the whole text
@@ -9,7 +10,7 @@ abbrev pub invariant-loop-entry : goal.invariant-loop-entry
 invariant-loop-entry g l = record {
   room : l.stack.room ≡ l.fn.stack.room;
   stands : (term : Term) → IsTerm l.bytes term
-      → (to_come : List ℕ) × IsPart (g.K.Sink.state l.fn.sink) (g.K.Sink.state l.sink) (text term) to_come × Stands l.stack.room l.stack.entries l.rest to_come;
+      → (to_come : List ℕ) × HasPutPart (g.K.Sink.state l.fn.sink) (g.K.Sink.state l.sink) (text term) to_come × Stands l.stack.room l.stack.entries l.rest to_come;
 }
 
 abbrev pub decreases-loop-entry : goal.decreases-loop-entry

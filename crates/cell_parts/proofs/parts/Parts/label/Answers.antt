@@ -15,8 +15,8 @@ index-kept-requires c =
     kept-inside inside.labels.items inside.cells.items inside.kept.items c.args.self.now.parts c.args.part (ap (λ (v : CellParts). v.parts) c.self.view_is) c.self.invariant.same c.requires in
     omega (arith, within, inside.kept.ok.0)
 
-pub label_in-requires-clause-within : goal.label_in-requires-clause-within
-label_in-requires-clause-within c =
+pub items_between-requires-clause-within : goal.items_between-requires-clause-within
+items_between-requires-clause-within c =
     let inside = c.self.inside in
     let within = kept-inside inside.labels.items inside.cells.items inside.kept.items c.args.self.now.parts c.args.part (ap (λ (v : CellParts). v.parts) c.self.view_is) c.self.invariant.same c.requires in
     let k = c.index-kept.result.now in
@@ -30,6 +30,6 @@ returns c =
     let inside = c.self.inside in
     let within = kept-inside inside.labels.items inside.cells.items inside.kept.items c.args.self.now.parts c.args.part (ap (λ (v : CellParts). v.parts) c.self.view_is) c.self.invariant.same c.requires in
     let k = c.index-kept.result.now in
-    ap Some (c.label_in.ensures ∙ ap (λ labels. slice_range labels k.from (k.from + k.size)) c.deref.ensures.value)
+    ap Some (c.items_between.ensures ∙ ap (λ labels. slice_range labels k.from (k.from + k.size)) c.deref.ensures.value)
     ∙ sym (ap (option_map (λ (p : CellPart). p.label)) (part-read inside.labels.items inside.cells.items inside.kept.items c.args.part k c.self.invariant.same within c.index-kept.ensures))
     ∙ ap (λ (v : CellParts). option_map (λ (p : CellPart). p.label) (slice_get v.parts c.args.part)) c.self.view_is

@@ -1,6 +1,7 @@
 use Rattle.std.proofs.Common.{arith}
 use Rattle.dump_io.specs.Laws.Reads.{ReadsAtMost-then, ReadsAtMost-within}
-use Rattle.dump_command.proofs.PartLoads.{IfErr-halted, StopsFor-part}
+use Rattle.dump_command.proofs.PartLoads.{IfErr-halted}
+use Rattle.dump_command.proofs.Reading.{StopsFor-reading}
 use Rattle.dump_command.proofs.commands.peek.load_over.Goals as goal
 
 pub returns-in_err-heap-clause-reads : goal.returns-in_err-heap-clause-reads
@@ -10,7 +11,7 @@ returns-in_err-heap-clause-reads g c =
 pub returns-in_err-heap-clause-stops : goal.returns-in_err-heap-clause-stops
 returns-in_err-heap-clause-stops g c =
     let state = g.D.Dumps.state in
-    IfErr-halted _ c.from_residual.result _ c.from_residual.ensures.1 (StopsFor-part (state c.args.dumps.now) (state c.load_part.new.dumps) _ c.in_err-heap.ensures.fault)
+    IfErr-halted _ c.from_residual.result _ c.from_residual.ensures.1 (StopsFor-reading (state c.args.dumps.now) (state c.load_part.new.dumps) (λ why. ⊥) _ c.in_err-heap.ensures.fault)
 
 pub returns-in_err-previews-clause-reads : goal.returns-in_err-previews-clause-reads
 returns-in_err-previews-clause-reads g c =

@@ -2,7 +2,8 @@ use Rattle.std.proofs.Common.{arith, map, sym, subst}
 use Rattle.heap_lines.specs.Wholes.{cells_in, is_known, HasLines}
 use Rattle.term_forms.specs.Seen.{element}
 use Rattle.dump_command.specs.Inner.Loads.{GivesPart}
-use Rattle.dump_command.proofs.PartLoads.{stopped, Gives-lacking, Gives-stopped, Gives-terms, StopsFor-table}
+use Rattle.dump_command.proofs.PartLoads.{stopped, Gives-lacking, Gives-stopped, Gives-terms}
+use Rattle.dump_command.proofs.Reading.{StopsFor-reading}
 use Rattle.dump_command.proofs.commands.peek.load_terms.Goals as goal
 
 pub returns-in_err-lines-clause-gives : goal.returns-in_err-lines-clause-gives
@@ -15,7 +16,7 @@ returns-in_err-lines-clause-gives g c =
     stopped (GivesPart c.args.pid.now c.args.addr terms c.args.nodes at.limits.now at.index.now before after)
     c.from_residual.result _ c.from_residual.ensures.1
     (Gives-stopped c.args.pid.now c.args.addr terms c.args.nodes at.limits.now at.index.now before after _ _ table.reads (omega arith)
-    (StopsFor-table before after _ table.fault))
+    (StopsFor-reading before after (λ why. ⊥) _ table.fault))
 
 pub returns-in_err-find_line-clause-gives : goal.returns-in_err-find_line-clause-gives
 returns-in_err-find_line-clause-gives g c =

@@ -8,7 +8,7 @@ use Rattle.heap_cells.specs.HeapMap.{HeapMap, number_at, form_at}
 use Rattle.heap_cells.specs.Inner.Texts.{text_of, seam_of}
 use Rattle.cell_records.specs.Order.{addresses_of, number_with}
 use Rattle.heap_cells.proofs.RecordFacts.{number-at, read-from, form-of, no-kind, some-kind}
-use Rattle.heap_cells.proofs.TargetFacts.{number_at-within}
+use Rattle.heap_cells.specs.Laws.Cells.{number_at-within}
 use Rattle.heap_cells.proofs.heap.Heap.at.Goals as goal
 
 -- the number of the cell with the address

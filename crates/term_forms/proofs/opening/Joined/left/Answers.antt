@@ -1,4 +1,4 @@
-use Rattle.std.proofs.Common.{◌≡◌, [], length, ◌≤◌, sym, ◌∙◌, ap, subst}
+use Rattle.std.proofs.Common.{◌≡◌, [], length, ◌≤◌, subst}
 use Rattle.std.specs.Prelude.{IfSome}
 use Rattle.term_forms.specs.Unread.{Unread}
 use Rattle.term_forms.proofs.Ends.{end-few, end-over}

@@ -5,15 +5,15 @@ use Rattle.tuple_fronts.specs.Inner.Kept.{start_at}
 use Rattle.tuple_fronts.proofs.PartFacts.{part-at, text-laid, text-spelled}
 use Rattle.tuple_fronts.proofs.kept.Kept.text.Goals as goal
 
-pub part_of-requires-clause-ordered : goal.part_of-requires-clause-ordered
-part_of-requires-clause-ordered c =
+pub items_between-requires-clause-ordered : goal.items_between-requires-clause-ordered
+items_between-requires-clause-ordered c =
     let laid = text-laid c.args.self.now c.args.n c.requires.sound c.requires.element in
     let start = c.span_of-from.ensures.from ∙ ap (λ l. start_at l c.args.n) c.deref.ensures.value in
     let end = c.span_of-from.ensures.upto ∙ ap (λ l. slice_index l c.args.n) c.deref.ensures.value in
     omega (arith, laid.0, start, end)
 
-pub part_of-requires-clause-within : goal.part_of-requires-clause-within
-part_of-requires-clause-within c =
+pub items_between-requires-clause-within : goal.items_between-requires-clause-within
+items_between-requires-clause-within c =
     let laid = text-laid c.args.self.now c.args.n c.requires.sound c.requires.element in
     let end = c.span_of-from.ensures.upto ∙ ap (λ l. slice_index l c.args.n) c.deref.ensures.value in
     let all = ap length c.deref-2.ensures.value in
@@ -25,7 +25,7 @@ returns-clause-text c =
     let n = c.args.n in
     let start = c.span_of-from.ensures.from ∙ ap (λ l. start_at l n) c.deref.ensures.value in
     let end = c.span_of-from.ensures.upto ∙ ap (λ l. slice_index l n) c.deref.ensures.value in
-    c.part_of.ensures ∙ ap (λ l. slice_range l c.span_of-from.result.0 c.span_of-from.result.1) c.deref-2.ensures.value ∙ ap₂ (slice_range kept.texts.items) start end
+    c.items_between.ensures ∙ ap (λ l. slice_range l c.span_of-from.result.0 c.span_of-from.result.1) c.deref-2.ensures.value ∙ ap₂ (slice_range kept.texts.items) start end
     ∙ sym (part-at kept.texts.items kept.ends.items n c.requires.element)
 
 pub returns-clause-spelled : goal.returns-clause-spelled
@@ -34,6 +34,6 @@ returns-clause-spelled c =
     let n = c.args.n in
     let start = c.span_of-from.ensures.from ∙ ap (λ l. start_at l n) c.deref.ensures.value in
     let end = c.span_of-from.ensures.upto ∙ ap (λ l. slice_index l n) c.deref.ensures.value in
-    let is = c.part_of.ensures ∙ ap (λ l. slice_range l c.span_of-from.result.0 c.span_of-from.result.1) c.deref-2.ensures.value ∙ ap₂ (slice_range kept.texts.items) start end
+    let is = c.items_between.ensures ∙ ap (λ l. slice_range l c.span_of-from.result.0 c.span_of-from.result.1) c.deref-2.ensures.value ∙ ap₂ (slice_range kept.texts.items) start end
     ∙ sym (part-at kept.texts.items kept.ends.items n c.requires.element) in
     subst (λ t. IsSome (whole_of t)) (sym is) (text-spelled kept n c.requires.sound c.requires.element)

@@ -4,8 +4,8 @@ use Rattle.dump_sections.specs.Bodies.{IsBodyIn}
 use Rattle.dump_sections.specs.Index.{sections_in}
 use Rattle.binary_holders.specs.Usage.{fronts_length, heaps_length}
 use Rattle.dump_command.specs.Meaning.{memory_body, memory_section, used_in, used_report}
-use Rattle.dump_command.proofs.HolderLoads.{HasRead-heard, IsOfBodies-holders, StopsFor-holders, Takes-heard}
-use Rattle.dump_command.proofs.Reading.{IsHalted-bodies, IsHalted-later, ReadsFor-halted}
+use Rattle.dump_command.proofs.HolderLoads.{HasRead-heard, IsOfBodies-holders, Takes-heard}
+use Rattle.dump_command.proofs.Reading.{IsHalted-bodies, IsHalted-later, ReadsFor-halted, StopsFor-reading}
 use Rattle.dump_command.proofs.commands.binaries.BinariesReport.read.Goals as goal
 
 pub returns-in_err-node-clause-reads : goal.returns-in_err-node-clause-reads
@@ -20,7 +20,7 @@ returns-in_err-found-clause-reads g c =
     ReadsFor-halted _ _ c.from_residual-in_err-found.result _ c.from_residual-in_err-found.ensures.1 (IsHalted-later _ _ _ _ _ _
     (Takes-heard memory_body (λ i pids. fronts_length i + heaps_length i pids) used_in used_report _ _ _ _ read.loads.allowed c.in_ok-node.node.procs (λ bytes all. read.node.table bytes all.opened)
     _ (ReadsAtMost-then read.loads.reads heard.reads) (omega arith))
-    read.loads.reads (StopsFor-holders (g.D.Dumps.state c.load_node.new.dumps) (g.D.Dumps.state c.binary_use.new.dumps) _ heard.fault))
+    read.loads.reads (StopsFor-reading (g.D.Dumps.state c.load_node.new.dumps) (g.D.Dumps.state c.binary_use.new.dumps) (λ why. ⊥) _ heard.fault))
 
 pub returns-clause-reads : goal.returns-clause-reads
 returns-clause-reads g c =

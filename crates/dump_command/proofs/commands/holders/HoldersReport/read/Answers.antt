@@ -3,8 +3,8 @@ use Rattle.dump_io.specs.Laws.Reads.{ReadsAtMost-then}
 use Rattle.binary_holders.specs.Usage.{heaps_length, holders_in}
 use Rattle.glance_text.specs.Holders.{holders_report}
 use Rattle.dump_command.specs.Meaning.{no_body}
-use Rattle.dump_command.proofs.HolderLoads.{HasRead-heard, IsOfBodies-holders, StopsFor-holders, Takes-heard}
-use Rattle.dump_command.proofs.Reading.{IsHalted-bodies, IsHalted-later, ReadsFor-halted}
+use Rattle.dump_command.proofs.HolderLoads.{HasRead-heard, IsOfBodies-holders, Takes-heard}
+use Rattle.dump_command.proofs.Reading.{IsHalted-bodies, IsHalted-later, ReadsFor-halted, StopsFor-reading}
 use Rattle.dump_command.proofs.commands.holders.HoldersReport.read.Goals as goal
 
 pub returns-in_err-procs-clause-reads : goal.returns-in_err-procs-clause-reads
@@ -21,7 +21,7 @@ returns-in_err-held-clause-reads g c =
     ReadsFor-halted _ _ c.from_residual-in_err-held.result _ c.from_residual-in_err-held.ensures.1 (IsHalted-later _ _ _ _ _ _
     (Takes-heard no_body heaps_length (λ bytes i pids. holders_in bytes i pids addr) holders_report _ _ _ _ read.loads.allowed c.in_ok-procs.procs (λ bytes all. read.table bytes all.opened)
     _ (ReadsAtMost-then read.loads.reads heard.reads) (omega arith))
-    read.loads.reads (StopsFor-holders (g.D.Dumps.state c.load.new.dumps) (g.D.Dumps.state c.holders.new.dumps) _ heard.fault))
+    read.loads.reads (StopsFor-reading (g.D.Dumps.state c.load.new.dumps) (g.D.Dumps.state c.holders.new.dumps) (λ why. ⊥) _ heard.fault))
 
 pub returns-clause-reads : goal.returns-clause-reads
 returns-clause-reads g c =

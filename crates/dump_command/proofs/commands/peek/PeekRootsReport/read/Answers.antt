@@ -14,8 +14,8 @@ use Rattle.command_words.specs.Command.{peek_roots}
 use Rattle.dump_command.specs.Meaning.{meaning, part_in}
 use Rattle.dump_command.specs.Inner.Loads.{walk_in}
 use Rattle.dump_command.proofs.HeapLoads.{roots-found}
-use Rattle.dump_command.proofs.PartLoads.{peeked-told, size-one, HasRead-behind, IsHalted-behind, IsHalted-first, StopsFor-roots}
-use Rattle.dump_command.proofs.Reading.{IsHalted-subject, ReadsFor-halted}
+use Rattle.dump_command.proofs.PartLoads.{peeked-told, size-one, HasRead-behind, IsHalted-behind, IsHalted-first}
+use Rattle.dump_command.proofs.Reading.{IsHalted-subject, ReadsFor-halted, StopsFor-reading}
 use Rattle.dump_command.proofs.commands.peek.PeekRootsReport.read.Goals as goal
 
 -- the section with the roots
@@ -44,7 +44,7 @@ returns-in_err-roots-clause-reads g c =
     let roots = c.in_err-roots.ensures in
     ReadsFor-halted _ _ c.from_residual-in_err-roots.result _ c.from_residual-in_err-roots.ensures.1
     (IsHalted-first t.pid.now (body t.kind t.pid.now) None (text t.kind t.pid.now t.first t.count t.nodes t.marked) at.limits.now at.index.now before rooted
-    c.in_ok-find_process.ensures.judges _ roots.reads (omega (arith, here, one)) _ (StopsFor-roots before rooted _ roots.fault))
+    c.in_ok-find_process.ensures.judges _ roots.reads (omega (arith, here, one)) _ (StopsFor-reading before rooted (λ why. ⊥) _ roots.fault))
 
 pub returns-in_err-part-clause-reads : goal.returns-in_err-part-clause-reads
 returns-in_err-part-clause-reads g c =

@@ -1,31 +1,25 @@
 use Rattle.std.proofs.Common.{◌≡◌, ℕ, ◌+◌, ◌*◌, List, None, refl, sym, ◌∙◌, ap, arith, rules}
 use Rattle.std.specs.Option.{option_or, option_to_list}
 use Rattle.dump_io.specs.Dumps.{DeviceState, ReadsAtMost}
+use Rattle.dump_io.specs.Faults.{IsReadCauseOf}
 use Rattle.dump_io.specs.Limits.{Numbers}
+use Rattle.dump_io.specs.declared.faults.ReadFault.{ReadFault}
 use Rattle.dump_sections.specs.Bodies.{body_size}
 use Rattle.dump_sections.specs.Index.{Contents, index_of, sections_in}
 use Rattle.dump_sections.specs.Loading.{bodies_length}
 use Rattle.heap_cells.specs.Loading.{heap_bodies}
-use Rattle.message_shapes.specs.Loading.{IsShapesCauseOf}
 use Rattle.message_shapes.specs.Messages.{mail_shapes}
-use Rattle.message_shapes.specs.declared.faults.ShapesFault.{ShapesFault}
-use Rattle.message_shapes.specs.declared.faults.ShapesFault.TheVariants as shapes_faults
 use Rattle.root_views.specs.Sections.{root_section}
 use Rattle.root_views.specs.declared.kinds.RootKind.TheVariants.{Mail}
 use Rattle.command_words.specs.Command.{shapes}
 use Rattle.dump_command.specs.Meaning.{Meaning, meaning, no_process}
 use Rattle.dump_command.specs.Report.{refusal_listed}
-use Rattle.dump_command.specs.Inner.Reading.{IsHalted, StopsFor, Takes}
-use Rattle.dump_command.specs.Inner.Stops.{stop_of_shapes}
+use Rattle.dump_command.specs.Inner.Reading.{IsHalted, Takes}
+use Rattle.dump_command.specs.Inner.Stops.{stop_of_reading}
 use Rattle.dump_command.proofs.HeapLoads.{bytes-loaded}
 use Rattle.dump_command.proofs.PartLoads.{size-one}
-use Rattle.dump_command.proofs.Reading.{HasRead-listed, IsHalted-subject, ReadsFor-halted, StopsFor-too, Takes-listed}
+use Rattle.dump_command.proofs.Reading.{HasRead-listed, IsHalted-subject, ReadsFor-halted, StopsFor-reading, Takes-listed}
 use Rattle.dump_command.proofs.commands.shapes.ShapesReport.read.Goals as goal
-
--- the shapes weren't loaded
-StopsFor-shapes : (before after : DeviceState) (fault : ShapesFault) → IsShapesCauseOf before after fault → StopsFor before after (λ why. ⊥) (stop_of_shapes fault)
-StopsFor-shapes before after shapes_faults.Read cause = cause.1
-StopsFor-shapes before after shapes_faults.Memory cause = tt
 
 module _ (pid : List ℕ) (most : ℕ) (limits : Numbers) (index : Contents) (old new : DeviceState) (there : no_process pid (sections_in index) ≡ None) where
   listed : refusal_listed (meaning (shapes pid most)) (sections_in index) limits ≡ None
@@ -43,9 +37,9 @@ module _ (pid : List ℕ) (most : ℕ) (limits : Numbers) (index : Contents) (ol
       ))
 
   -- why it wasn't
-  halted : (fault : ShapesFault) → Takes (meaning (shapes pid most)) limits index old new → IsShapesCauseOf old new fault → IsHalted (meaning (shapes pid most)) limits index old new (stop_of_shapes fault)
+  halted : (fault : ReadFault) → Takes (meaning (shapes pid most)) limits index old new → IsReadCauseOf old new fault → IsHalted (meaning (shapes pid most)) limits index old new (stop_of_reading fault)
   halted fault takes cause =
-      record { takes = takes; cause = StopsFor-too old new (λ why. ⊥) _ (stop_of_shapes fault) (StopsFor-shapes old new fault cause) (λ why none. absurd none) }
+      record { takes = takes; cause = StopsFor-reading old new _ fault cause }
 
 pub returns-in_err-find_process-clause-reads : goal.returns-in_err-find_process-clause-reads
 returns-in_err-find_process-clause-reads g c =

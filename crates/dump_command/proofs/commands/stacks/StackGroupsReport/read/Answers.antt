@@ -6,22 +6,13 @@ use Rattle.dump_sections.specs.Index.{Contents, index_of, sections_in}
 use Rattle.dump_sections.specs.Loading.{bodies_length, large_fault}
 use Rattle.process_stacks.specs.Groups.{found_from}
 use Rattle.process_stacks.specs.Rows.{stack_rows, stacks_length}
-use Rattle.process_stacks.specs.Stacks.{IsStackCauseOf}
-use Rattle.process_stacks.specs.declared.faults.StackFault.{StackFault}
-use Rattle.process_stacks.specs.declared.faults.StackFault.TheVariants as stack_faults
 use Rattle.process_table.specs.Records.{record_sections}
 use Rattle.section_rows.specs.Rows.{Row}
 use Rattle.command_words.specs.Command.{stacks}
 use Rattle.dump_command.specs.Meaning.{meaning}
-use Rattle.dump_command.specs.Inner.Reading.{IsIndexed, StopsFor, Takes}
-use Rattle.dump_command.specs.Inner.Stops.{stop_of_stacks}
-use Rattle.dump_command.proofs.Reading.{none-large, HasRead-listed, IsHalted-bodies, IsHalted-later, IsOfBodies, ReadsFor-halted, Takes-listed}
+use Rattle.dump_command.specs.Inner.Reading.{IsIndexed, Takes}
+use Rattle.dump_command.proofs.Reading.{none-large, HasRead-listed, IsHalted-bodies, IsHalted-later, IsOfBodies, ReadsFor-halted, StopsFor-reading, Takes-listed}
 use Rattle.dump_command.proofs.commands.stacks.StackGroupsReport.read.Goals as goal
-
--- the stacks weren't gathered
-StopsFor-stacks : (before after : DeviceState) (fault : StackFault) → IsStackCauseOf before after fault → StopsFor before after (λ why. ⊥) (stop_of_stacks fault)
-StopsFor-stacks before after stack_faults.Read cause = cause.1
-StopsFor-stacks before after stack_faults.Memory cause = tt
 
 module _ (most : ℕ) (limits : Numbers) (index : Contents) where
   of : IsOfBodies (meaning (stacks most)) limits index
@@ -52,7 +43,7 @@ returns-in_err-stacks-clause-reads g c =
     let heard = c.in_err-stacks.ensures in
     ReadsFor-halted _ _ c.from_residual-in_err-stacks.result _ c.from_residual-in_err-stacks.ensures.1 (IsHalted-later _ _ _ _ _ _
     (takes c.args.self.now.count _ _ _ _ read.loads.allowed c.in_ok-procs.procs (λ bytes all. read.rows bytes all.opened) (ReadsAtMost-then read.loads.reads heard.reads))
-    read.loads.reads (StopsFor-stacks (g.D.Dumps.state c.load.new.dumps) (g.D.Dumps.state c.gather.new.dumps) _ heard.fault))
+    read.loads.reads (StopsFor-reading (g.D.Dumps.state c.load.new.dumps) (g.D.Dumps.state c.gather.new.dumps) (λ why. ⊥) _ heard.fault))
 
 pub returns-clause-reads : goal.returns-clause-reads
 returns-clause-reads g c =
