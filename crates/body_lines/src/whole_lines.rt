@@ -2,17 +2,17 @@
 ghost use Rattle.std.specs.Prelude.{◌≡◌, ◌+◌, ◌-◌, ◌<◌, ◌≤◌, ◌^◌, length, take, drop, OnOk, IfOk, IfErr};
 ghost use Rattle.std.specs.List.{between};
 ghost use Rattle.dump_io.specs.Dumps.{size_of, IsOpen, ReadsAtMost, IfTold};
+ghost use Rattle.dump_io.specs.Faults.{IsReadCauseOf};
 ghost use Rattle.body_lines.specs.Lines.{HasNoLf, AreWhole, lines_at};
 ghost use Rattle.body_lines.specs.Hearing.{Hears, HearsBody, StopsAmong};
 ghost use Rattle.body_lines.specs.WholeLines.{EndsWhole};
 ghost use Rattle.body_lines.specs.Inner.Pieces.{Takes, StopsWithin};
-ghost use Rattle.body_lines.specs.Inner.Growing.{IsUnread};
 
 use crate::faults::WholeLinesFault;
 use crate::reading::{PIECE, read_piece};
 use crate::starts::line_start;
 use crate::whole_sink::WholeLineSink;
-use dump_io::Dumps;
+use dump_io::{Dumps, ReadFault};
 use std::alloc::AllocError;
 
 // Makes room for one more byte at least behind those that are held in the buffer. A
@@ -29,13 +29,6 @@ fn make_room(buffer: &mut Vec<u8>, held: usize) -> Result<(), AllocError>
     Ok(())
 }
 
-// Why no piece was read.
-#[derive(Drop)]
-enum Unread {
-    Failed,
-    NoMemory,
-}
-
 // Reads a piece of the open file that ends at an offset, behind the bytes that are held in
 // the buffer, and returns how many bytes the piece has. The buffer grows if it is full.
 fn read_more<D: Dumps>(
@@ -44,14 +37,14 @@ fn read_more<D: Dumps>(
     upto: u64,
     held: usize,
     buffer: &mut Vec<u8>,
-) -> Result<usize, Unread>
+) -> Result<usize, ReadFault>
     requires open { IsOpen (D.state dumps.old).now }
     requires within { upto ≤ size_of (D.state dumps.old).now }
     requires some { at < upto }
     requires held { held ≤ length buffer.old.items }
     ensures reads { ReadsAtMost (D.state dumps.old) (D.state dumps.new) (upto - at) }
     ensures taken { IfOk result (ReadsAtMost (D.state dumps.old) (D.state dumps.new)) }
-    ensures unread { IfErr result (IsUnread (D.state dumps.old) (D.state dumps.new)) }
+    ensures fault { IfErr result (IsReadCauseOf (D.state dumps.old) (D.state dumps.new)) }
     ensures count { IfOk result (λ count.
         (0 < count) × (count ≤ upto - at) × (held + count ≤ length buffer.new.items)) }
     ensures piece_len { IfOk result (λ count. count ≤ 65536) }
@@ -59,12 +52,10 @@ fn read_more<D: Dumps>(
     ensures piece { IfOk result (λ count. IfTold (D.state dumps.old).now
         (λ dump. take count (drop held buffer.new.items) ≡ between at (at + count) dump)) }
 {
-    if make_room(buffer, held).is_err() {
-        return Err(Unread::NoMemory);
-    }
+    make_room(buffer, held)?;
     match read_piece(dumps, at, upto, held, buffer) {
         Ok(count) => Ok(count),
-        Err(_) => Err(Unread::Failed),
+        Err(_) => Err(ReadFault::Read),
     }
 }
 
@@ -157,9 +148,9 @@ fn hear_rest<R: WholeLineSink>(bytes: &[u8], line: u64, sink: &mut R) -> Result<
 /// twice that line and a piece. It serves the next body too.
 ///
 /// On `Ok` the sink has heard exactly the lines of these bytes. `Stopped` has the answer with which the sink stopped, after
-/// it heard the first of the lines; nothing more is read then. `Read` comes only if the device's count of faults rose, and
-/// `Memory` may come whenever the buffer has to grow; the sink has heard the first of the lines then, if any. Whatever it
-/// returns, no more bytes are read than lie between the offsets.
+/// it heard the first of the lines; nothing more is read then. `Unread` comes with `Read` only if the device's count of
+/// faults rose, and with `Memory` whenever the buffer has to grow; the sink has heard the first of the lines then, if any.
+/// Whatever it returns, no more bytes are read than lie between the offsets.
 pub fn hear_whole_lines<D: Dumps, R: WholeLineSink>(
     dumps: &mut D,
     from: u64,
@@ -184,8 +175,7 @@ pub fn hear_whole_lines<D: Dumps, R: WholeLineSink>(
         let held = (at - line) as usize;
         let count = match read_more(dumps, at, upto, held, buffer) {
             Ok(count) => count,
-            Err(Unread::Failed) => return Err(WholeLinesFault::Read),
-            Err(Unread::NoMemory) => return Err(WholeLinesFault::Memory),
+            Err(fault) => return Err(WholeLinesFault::Unread(fault)),
         };
         match hear_held(buffer, held, count, line, sink) {
             Ok(next) => line = next,

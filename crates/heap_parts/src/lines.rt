@@ -30,7 +30,9 @@ pub trait WholeHeap: Addresses {
         ensures { result ≡ written self.now };
 
     /// Reads the first line with an address, and appends its text and an end of line. Each
-    /// line of the text that it appends to has its own.
+    /// line of the text that it appends to has its own. Returns `Memory` if there would be more
+    /// bytes than the limit, and from any allocation, and `Read` only if the device's count of
+    /// faults rose.
     fn push_line<D: Dumps>(
         &self,
         dumps: &mut D,

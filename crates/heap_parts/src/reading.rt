@@ -92,7 +92,7 @@ fn push_piece<D: Dumps>(
     Ok(())
 }
 
-// Appends bytes, unless there would be more than the limit.
+// Appends bytes. Returns `Memory` also if there would be more than the limit.
 fn push_bytes(lines: &mut Vec<u8>, bytes: &[u8], limit: usize) -> Result<(), ReadFault>
     requires { length lines.old.items ≤ limit }
     ensures fault { IfErr result (λ fault. fault ≡ ReadFault.Memory) }
@@ -106,8 +106,8 @@ fn push_bytes(lines: &mut Vec<u8>, bytes: &[u8], limit: usize) -> Result<(), Rea
     Ok(())
 }
 
-// Appends the first line of the bytes of the open file between two offsets as it stands there. It is
-// too large if the limit is reached and neither the line nor the body has ended.
+// Appends the first line of the bytes of the open file between two offsets as it stands there. Returns
+// `Memory` also if the limit is reached and neither the line nor the body has ended.
 fn push_raw<D: Dumps>(
     dumps: &mut D,
     from: u64,
@@ -159,6 +159,9 @@ fn text_len(lines: &[u8], start: usize) -> usize
 /// Appends the text of the first line of the bytes of the open file between two offsets, with CR and LF
 /// behind it. Reads in pieces up to the one in which the line ends: 28 bytes first, then as much again
 /// as was read of the line, but at most 65,536 bytes, and never more than the limit leaves.
+///
+/// Returns `Memory` if there would be more bytes than the limit, and from any allocation, and `Read` only
+/// if the device's count of faults rose.
 pub fn push_text<D: Dumps>(
     dumps: &mut D,
     from: u64,

@@ -10,7 +10,7 @@ ghost use Rattle.heap_skeleton.specs.Inner.Hearing.{HearsSection, HoldsSections}
 
 use crate::heap_sink::HeapSink;
 use crate::held::Held;
-use body_lines::{WholeLinesFault, hear_whole_lines};
+use body_lines::hear_whole_lines;
 use dump_io::{Dumps, ReadFault};
 use dump_sections::Index;
 use heap_cells::enc_of;
@@ -35,12 +35,8 @@ fn hear_section<D: Dumps>(
         (D.state dumps.old).now (section_in index.now place)) }
 {
     let (from, upto) = index.body_at(place);
-    match hear_whole_lines(dumps, from, upto, buffer, sink) {
-        Ok(()) => Ok(()),
-        Err(WholeLinesFault::Read) => Err(ReadFault::Read),
-        Err(WholeLinesFault::Memory) => Err(ReadFault::Memory),
-        Err(WholeLinesFault::Stopped(_)) => Err(ReadFault::Memory),
-    }
+    hear_whole_lines(dumps, from, upto, buffer, sink)?;
+    Ok(())
 }
 
 // The heap lines of the sections with a heap and with the literals, and how many of them are those of the heap.

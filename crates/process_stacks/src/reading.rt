@@ -47,8 +47,7 @@ fn read_frames<D: Dumps>(
         Ok(()) => Ok(sink.lines),
         Err(WholeLinesFault::Stopped(Stop::Full)) => Ok(sink.lines),
         Err(WholeLinesFault::Stopped(Stop::NoMemory)) => Err(ReadFault::Memory),
-        Err(WholeLinesFault::Memory) => Err(ReadFault::Memory),
-        Err(WholeLinesFault::Read) => Err(ReadFault::Read),
+        Err(WholeLinesFault::Unread(fault)) => Err(fault),
     }
 }
 

@@ -8,7 +8,7 @@ ghost use Rattle.root_views.specs.Seen.{root};
 ghost use Rattle.root_lines.specs.Placed.{placed_roots};
 ghost use Rattle.root_lines.specs.Inner.Each.{HearsThrough};
 
-use body_lines::{WholeLineSink, WholeLinesFault, hear_whole_lines};
+use body_lines::{WholeLineSink, hear_whole_lines};
 use dump_io::{Dumps, ReadFault};
 use root_views::{Root, RootKind};
 use std::alloc::AllocError;
@@ -99,10 +99,6 @@ pub fn hear_roots<D: Dumps, S: EachRoot>(
         HearsBody S.hears (placed_roots kind) sink.old sink.new from upto now) }
 {
     let mut by = ByRoot { kind, sink };
-    match hear_whole_lines(dumps, from, upto, buffer, &mut by) {
-        Ok(()) => Ok(()),
-        Err(WholeLinesFault::Read) => Err(ReadFault::Read),
-        Err(WholeLinesFault::Memory) => Err(ReadFault::Memory),
-        Err(WholeLinesFault::Stopped(_)) => Err(ReadFault::Memory),
-    }
+    hear_whole_lines(dumps, from, upto, buffer, &mut by)?;
+    Ok(())
 }

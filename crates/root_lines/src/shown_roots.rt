@@ -11,7 +11,7 @@ ghost use Rattle.root_lines.specs.Inner.Hearing.{IsReady, Took};
 use crate::keeping::kept_root;
 use crate::kept_roots::KeptRoots;
 use crate::root_sink::RootSink;
-use body_lines::{WholeLinesFault, hear_whole_lines};
+use body_lines::hear_whole_lines;
 use dump_io::{Dumps, ReadFault};
 use root_views::{Root, RootKind};
 use std::alloc::Global;
@@ -47,12 +47,8 @@ fn take_roots<D: Dumps>(
             roots: Vec::new(alloc),
         },
     };
-    match hear_whole_lines(dumps, from, upto, &mut buffer, &mut sink) {
-        Ok(()) => Ok(sink),
-        Err(WholeLinesFault::Read) => Err(ReadFault::Read),
-        Err(WholeLinesFault::Memory) => Err(ReadFault::Memory),
-        Err(WholeLinesFault::Stopped(_)) => Err(ReadFault::Memory),
-    }
+    hear_whole_lines(dumps, from, upto, &mut buffer, &mut sink)?;
+    Ok(sink)
 }
 
 /// Some of the roots of a body, with how many there are in all. Contracts see

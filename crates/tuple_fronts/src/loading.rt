@@ -12,7 +12,7 @@ ghost use Rattle.tuple_fronts.specs.Inner.Hearing.{HasCells, HearsSection, IsSpl
 use crate::front_sink::FrontSink;
 use crate::kept::Kept;
 use crate::runs::cells_behind;
-use body_lines::{WholeLinesFault, hear_whole_lines};
+use body_lines::hear_whole_lines;
 use cell_words::Weighed;
 use dump_io::{Dumps, ReadFault};
 use dump_sections::Index;
@@ -38,12 +38,8 @@ fn hear_section<D: Dumps>(
         (D.state dumps.old).now (section_in index.now place)) }
 {
     let (from, upto) = index.body_at(place);
-    match hear_whole_lines(dumps, from, upto, buffer, sink) {
-        Ok(()) => Ok(()),
-        Err(WholeLinesFault::Read) => Err(ReadFault::Read),
-        Err(WholeLinesFault::Memory) => Err(ReadFault::Memory),
-        Err(WholeLinesFault::Stopped(_)) => Err(ReadFault::Memory),
-    }
+    hear_whole_lines(dumps, from, upto, buffer, sink)?;
+    Ok(())
 }
 
 // Keeps empty fronts of cells whose lines weren't found.

@@ -27,24 +27,16 @@ hear_held-requires-clause-free g c =
     subst HasNoLf (sym keeps)
     (open-free (c.args.upto - c.args.from) c.loop-at.line c.loop-at.at c.loop-at.buffer.items before.read.front (omega (arith, before.from, before.inside)) before.read.is_open)
 
-pub returns-in-Err-Failed-clause-ends : goal.returns-in-Err-Failed-clause-ends
-returns-in-Err-Failed-clause-ends g c =
-    let before = c.loop-at.invariant in
-    let r = g.R.WholeLineSink in
-    let failed = rw c.in-Err-Failed.field-0-is at c.in-Err-Failed.ensures.unread in (
-      omega (arith, before.reads.later, failed),
-      HearsFront-read r.hears lines_at Joins-whole (g.D.Dumps.state c.args.dumps.now).now (c.args.upto - c.args.from) c.args.from c.args.sink.now c.loop-at.sink c.loop-at.line c.loop-at.at
-          c.args.upto c.loop-at.buffer.items before.read before.inside,
-    )
-
-pub returns-in-Err-NoMemory-clause-ends : goal.returns-in-Err-NoMemory-clause-ends
-returns-in-Err-NoMemory-clause-ends g c =
-    let before = c.loop-at.invariant in
-    HearsFront-read g.R.WholeLineSink.hears lines_at Joins-whole (g.D.Dumps.state c.args.dumps.now).now (c.args.upto - c.args.from) c.args.from c.args.sink.now c.loop-at.sink c.loop-at.line
-    c.loop-at.at c.args.upto c.loop-at.buffer.items before.read before.inside
-
 pub returns-in-Err-clause-ends : goal.returns-in-Err-clause-ends
 returns-in-Err-clause-ends g c =
+    let before = c.loop-at.invariant in (
+      grind (arith, before.reads.later, c.in-Err.ensures.fault),
+      HearsFront-read g.R.WholeLineSink.hears lines_at Joins-whole (g.D.Dumps.state c.args.dumps.now).now (c.args.upto - c.args.from) c.args.from c.args.sink.now c.loop-at.sink c.loop-at.line
+          c.loop-at.at c.args.upto c.loop-at.buffer.items before.read before.inside,
+    )
+
+pub returns-in-Err-hear_held-clause-ends : goal.returns-in-Err-hear_held-clause-ends
+returns-in-Err-hear_held-clause-ends g c =
     let before = c.loop-at.invariant in
     let r = g.R.WholeLineSink in
     let most = c.args.upto - c.args.from in
@@ -57,10 +49,10 @@ returns-in-Err-clause-ends g c =
     let value = c.deref_mut.ensures.value in
     let fits : held + count ≤ length new = omega (arith, read.count, ap length value) in
     let within = stops-piece r.hears lines_at most line at (omega (arith, before.from, before.inside)) c.loop-at.sink c.hear_held.new.sink (held + count) (take (held + count) new)
-    (length-take-le (held + count) new fits) (omega (arith, before.from, before.line, before.inside, read.count)) r.stops c.in-Err.stop c.in-Err.ensures.stops in
+    (length-take-le (held + count) new fits) (omega (arith, before.from, before.line, before.inside, read.count)) r.stops c.in-Err-hear_held.stop c.in-Err-hear_held.ensures.stops in
     StopsFront-fresh r.hears lines_at Joins-whole (g.D.Dumps.state c.args.dumps.now).now most c.args.from c.args.sink.now c.loop-at.sink line at count held c.loop-at.buffer.items new
     (omega (arith, before.from, before.inside)) fits (ap (take held) value ∙ read.keeps) (λ dump is. ap (λ l. take count (drop held l)) value ∙ read.piece dump (before.reads.same_now ∙ is)) before.read
-    r.stops c.hear_held.new.sink c.args.upto c.in-Err.stop (omega (arith, read.count, before.inside)) within
+    r.stops c.hear_held.new.sink c.args.upto c.in-Err-hear_held.stop (omega (arith, read.count, before.inside)) within
 
 pub loop-at-preserved : goal.loop-at-preserved
 loop-at-preserved g c =
