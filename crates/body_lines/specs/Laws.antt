@@ -1,5 +1,5 @@
 -- Laws of the lines of a body, each with its proof, for the proofs of callers.
-use Rattle.std.proofs.Common.{◌≡◌, ℕ, ◌+◌, ◌-◌, ◌<◌, ◌==◌, ◌⊎◌, inl, inr, true, false, List, [], ◌∷◌, ◌++◌, length, take, map, if◌then◌else◌, refl, sym, ◌∙◌, ap, subst, append_assoc, arith, length-append}
+use Rattle.std.proofs.Common.{◌≡◌, ℕ, ◌+◌, ◌-◌, ◌<◌, ◌==◌, ◌⊎◌, inl, inr, Bool, true, false, List, [], ◌∷◌, ◌++◌, length, take, drop, map, if◌then◌else◌, refl, sym, ◌∙◌, ap, subst, append_assoc, arith, length-append}
 use Rattle.std.specs.Prelude.{◌≢◌}
 use Rattle.std.specs.List.{concat}
 use Rattle.std.proofs.lemmas.Bool.Decides.{eqb_tells}
@@ -102,6 +102,28 @@ AreWhole-behind front (c ∷ bytes) free some whole =
           ∙ lines-first front ((c ∷ bytes) ++ more) first.0 (first.1 ++ raw_lines more) free (whole.lines more ∙ ap (λ l. l ++ raw_lines more) first.2)
           ∙ ap (λ l. l ++ raw_lines more) (sym (lines-first front (c ∷ bytes) first.0 first.1 free first.2));
     }
+
+-- behind the first line stand the others
+pub raws-behind : (bytes raw : List ℕ) (raws : List (List ℕ)) → raw_lines bytes ≡ raw ∷ raws → raw_lines (drop (length raw) bytes) ≡ raws
+raws-behind [] raw raws is = let no : [] ≡ raw ∷ raws = is in cc
+raws-behind (c ∷ bytes) raw raws is = by (raw_lines bytes) refl (raws-behind bytes) (c == lf) is
+  where
+    by : (later : List (List ℕ)) → raw_lines bytes ≡ later → ((line : List ℕ) (lines : List (List ℕ)) → raw_lines bytes ≡ line ∷ lines → raw_lines (drop (length line) bytes) ≡ lines)
+        → (b : Bool) → (if b then (c ∷ []) ∷ raw_lines bytes else lines_after c (raw_lines bytes)) ≡ raw ∷ raws → raw_lines (drop (length raw) (c ∷ bytes)) ≡ raws
+    by later at rest true same =
+        let first : c ∷ [] ≡ raw = cc in
+        let left : raw_lines bytes ≡ raws = cc in
+        ap (λ r. raw_lines (drop (length r) (c ∷ bytes))) (sym first) ∙ left
+    by [] at rest false same =
+        let now : (c ∷ []) ∷ [] ≡ raw ∷ raws = ap (lines_after c) (sym at) ∙ same in
+        let first : c ∷ [] ≡ raw = cc in
+        let left : [] ≡ raws = cc in
+        ap (λ r. raw_lines (drop (length r) (c ∷ bytes))) (sym first) ∙ at ∙ left
+    by (line ∷ lines) at rest false same =
+        let now : (c ∷ line) ∷ lines ≡ raw ∷ raws = ap (lines_after c) (sym at) ∙ same in
+        let first : c ∷ line ≡ raw = cc in
+        let left : lines ≡ raws = cc in
+        ap (λ r. raw_lines (drop (length r) (c ∷ bytes))) (sym first) ∙ rest line lines at ∙ left
 
 -- ---- what is heard of lines
 

@@ -4,4 +4,5 @@ pub mod HeapMap
 pub mod Inner
 pub mod Laws
 pub mod Loading
+pub mod Places
 pub mod Targets

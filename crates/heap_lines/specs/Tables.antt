@@ -2,7 +2,7 @@
 use Rattle.std.specs.Prelude.{◌≡◌, ℕ, List}
 use Rattle.std.specs.Ordering.{nat_cmp}
 use Rattle.first_sections.specs.Places.{place_by}
-use Rattle.heap_parts.specs.Places.{placed_lines, place_with}
+use Rattle.heap_cells.specs.Places.{placed_lines, place_with}
 
 -- of each address the table has the offset of the first heap line with it, in a body that begins at the base
 abbrev pub IsTableOf : ℕ → List ℕ → List (ℕ × ℕ) → Type 0

@@ -5,7 +5,7 @@ ghost use Rattle.std.specs.Ordering.{nat_cmp};
 ghost use Rattle.dump_io.specs.Dumps.{size_of, IsOpen, ReadsAtMost, IfTold};
 ghost use Rattle.dump_io.specs.Faults.{IsReadCauseOf};
 ghost use Rattle.first_sections.specs.Places.{place_by};
-ghost use Rattle.heap_parts.specs.Places.{placed_lines};
+ghost use Rattle.heap_cells.specs.Places.{placed_lines};
 ghost use Rattle.heap_lines.specs.Tables.{IsTableOf};
 
 use crate::address_sink::AddressSink;

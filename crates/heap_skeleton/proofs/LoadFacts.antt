@@ -13,7 +13,7 @@ use Rattle.dump_sections.specs.Sections.{Section}
 use Rattle.field_lines.specs.Lines.{text_line}
 use Rattle.heap_cells.specs.Cells.{Cell, addresses, cell_of, first_cells, kind_of, line_cells, spelled_cell}
 use Rattle.heap_cells.specs.Loading.{enc_of}
-use Rattle.heap_parts.specs.Places.{placed_line, placed_lines}
+use Rattle.heap_cells.specs.Places.{placed_line, placed_lines}
 use Rattle.term_forms.specs.Words.{led_of}
 use Rattle.heap_skeleton.specs.declared.held.Held.{Held}
 use Rattle.cell_graphs.specs.Graphs.{graph_of}

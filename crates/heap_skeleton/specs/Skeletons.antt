@@ -13,7 +13,7 @@ use Rattle.heap_cells.specs.Cells.{addresses, kind_of}
 use Rattle.heap_cells.specs.DumpHeaps.{heap_with}
 use Rattle.heap_cells.specs.HeapMap.{HeapMap}
 use Rattle.heap_cells.specs.Loading.{enc_of, heap_section, literals_section}
-use Rattle.heap_parts.specs.Places.{placed_lines}
+use Rattle.heap_cells.specs.Places.{placed_lines}
 
 -- of each cell, by number: its address; the offset in the file of its line; the kind of its form, or none
 -- if it is malformed; its words; and the cells to which it leads. The first `own` are the process's own

@@ -9,7 +9,7 @@ use Rattle.binary_payloads.specs.declared.enc.Enc.{Enc}
 use Rattle.dump_io.specs.Lines.{Line, lines_from, text_of}
 use Rattle.field_lines.specs.Lines.{text_line}
 use Rattle.heap_cells.specs.Cells.{Cell, cell_of, first_cells, kind_of, spelled_cell}
-use Rattle.heap_parts.specs.Places.{placed_line}
+use Rattle.heap_cells.specs.Places.{placed_line}
 use Rattle.heap_skeleton.specs.Skeletons.{SkeletonMap, first_places, is_tuple, is_tuple_kind}
 use Rattle.term_forms.specs.Elements.{Element}
 use Rattle.term_forms.specs.Forms.{HeapForm, Tuple}

@@ -9,7 +9,7 @@ use Rattle.binary_payloads.specs.declared.enc.Enc.{Enc}
 use Rattle.body_lines.specs.Lines.{lines_at}
 use Rattle.dump_io.specs.Lines.{Line, lf, lines_after, lines_from, raw_lines}
 use Rattle.dump_io.specs.Laws.Lines.{AreLines-raw}
-use Rattle.heap_parts.specs.Laws.Places.{raws-behind}
+use Rattle.body_lines.specs.Laws.{raws-behind}
 use Rattle.heap_skeleton.specs.Skeletons.{SkeletonMap, is_tuple}
 use Rattle.term_forms.specs.Elements.{Element}
 use Rattle.tuple_fronts.specs.declared.kept.Kept.{Kept}

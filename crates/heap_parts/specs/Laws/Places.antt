@@ -1,39 +1,18 @@
 -- The first line with an address is the one that begins at its place.
-use Rattle.std.proofs.Common.{◌≡◌, ◌⊎◌, inl, inr, ℕ, ◌+◌, ◌<◌, ◌≤◌, ◌==◌, Bool, true, false, cond, if◌then◌else◌, List, [], ◌∷◌, ◌++◌, length, drop, map, Option, None, Some, is_some, slice_get, unwrap_or, find, refl, sym, ◌∙◌, ap, drop-drop}
+use Rattle.std.proofs.Common.{◌≡◌, ◌⊎◌, inl, inr, ℕ, ◌+◌, ◌<◌, ◌≤◌, ◌==◌, true, false, cond, List, [], ◌∷◌, ◌++◌, length, drop, map, Option, None, Some, is_some, slice_get, unwrap_or, find, refl, sym, ◌∙◌, ap, drop-drop}
 use Rattle.std.specs.List.{filter_map, cons_option}
 use Rattle.std.specs.Option.{option_map, option_and_then, option_or}
 use Rattle.std.proofs.lemmas.Bool.{cases_lt}
 use Rattle.std.proofs.lemmas.List.{drop_all}
-use Rattle.dump_io.specs.Lines.{lf, lines_after, raw_lines, lines_from, text_of}
+use Rattle.dump_io.specs.Lines.{raw_lines, lines_from, text_of}
 use Rattle.field_lines.specs.Lines.{text_line}
 use Rattle.binary_payloads.specs.declared.enc.Enc.{Enc}
 use Rattle.term_forms.specs.Words.{led_of}
+use Rattle.body_lines.specs.Laws.{raws-behind}
 use Rattle.heap_cells.specs.Cells.{Cell, cell_of, spelled_cell, line_cells}
+use Rattle.heap_cells.specs.Places.{placed_line, placed_lines, place_with}
 use Rattle.heap_parts.specs.Firsts.{first_with}
-use Rattle.heap_parts.specs.Places.{placed_line, placed_lines, place_with, text_at, text_cell, ReadsTexts}
-
--- ---- the lines behind the first
-
-pub raws-behind : (bytes raw : List ℕ) (raws : List (List ℕ)) → raw_lines bytes ≡ raw ∷ raws → raw_lines (drop (length raw) bytes) ≡ raws
-raws-behind [] raw raws is = let no : [] ≡ raw ∷ raws = is in cc
-raws-behind (c ∷ bytes) raw raws is = by (raw_lines bytes) refl (raws-behind bytes) (c == lf) is
-  where
-    by : (later : List (List ℕ)) → raw_lines bytes ≡ later → ((line : List ℕ) (lines : List (List ℕ)) → raw_lines bytes ≡ line ∷ lines → raw_lines (drop (length line) bytes) ≡ lines)
-        → (b : Bool) → (if b then (c ∷ []) ∷ raw_lines bytes else lines_after c (raw_lines bytes)) ≡ raw ∷ raws → raw_lines (drop (length raw) (c ∷ bytes)) ≡ raws
-    by later at rest true same =
-        let first : c ∷ [] ≡ raw = cc in
-        let left : raw_lines bytes ≡ raws = cc in
-        ap (λ r. raw_lines (drop (length r) (c ∷ bytes))) (sym first) ∙ left
-    by [] at rest false same =
-        let now : (c ∷ []) ∷ [] ≡ raw ∷ raws = ap (lines_after c) (sym at) ∙ same in
-        let first : c ∷ [] ≡ raw = cc in
-        let left : [] ≡ raws = cc in
-        ap (λ r. raw_lines (drop (length r) (c ∷ bytes))) (sym first) ∙ at ∙ left
-    by (line ∷ lines) at rest false same =
-        let now : (c ∷ line) ∷ lines ≡ raw ∷ raws = ap (lines_after c) (sym at) ∙ same in
-        let first : c ∷ line ≡ raw = cc in
-        let left : lines ≡ raws = cc in
-        ap (λ r. raw_lines (drop (length r) (c ∷ bytes))) (sym first) ∙ rest line lines at ∙ left
+use Rattle.heap_parts.specs.Places.{text_at, text_cell, ReadsTexts}
 
 -- ---- lines that are read where they stand
 
