@@ -30,6 +30,7 @@ mod triage;
 mod trial;
 mod weigh;
 
+use crate::open::Unopened;
 use crate::report::run_report;
 use crate::stop::Stop;
 use audit::Audit;
@@ -75,7 +76,14 @@ pub(crate) fn run_command<D: Dumps, K: Sink>(
         dumps.old dumps.new (K.state out.old) (K.state out.new) result }
 {
     match cmd {
-        Cmd::On { file, query } => run_query(alloc, file, query, limits, dumps, out),
+        Cmd::On { file, query } => {
+            let dump = Unopened {
+                alloc,
+                file,
+                limits,
+            };
+            run_query(&dump, query, dumps, out)
+        }
         Cmd::Make { seed, count } => run_make(alloc, seed, count, out),
         Cmd::Trial { seed, count } => run_trial(alloc, seed, count, out),
     }
@@ -83,31 +91,29 @@ pub(crate) fn run_command<D: Dumps, K: Sink>(
 
 // The same for what is asked of the dump in a file.
 fn run_query<D: Dumps, K: Sink>(
-    alloc: Global,
-    file: &str,
+    dump: &Unopened<'_>,
     query: Query<'_>,
-    limits: &Limits,
     dumps: &mut D,
     out: &mut K,
 ) -> Result<u8, Stop>
     requires { IsAskInRange (shown_query query) }
-    ensures { Runs (on file.now (shown_query query.entry)) limits.now
+    ensures { Runs (on dump.now.file.now (shown_query query.entry)) dump.now.limits.now
         (D.state dumps.old) (D.state dumps.new) (K.state out.old) (K.state out.new) result }
 {
     match query {
-        Query::Index => run_report(alloc, file, &Index, limits, dumps, out),
-        Query::Info => run_report(alloc, file, &Info, limits, dumps, out),
-        Query::Procs => run_report(alloc, file, &ProcessTable, limits, dumps, out),
+        Query::Index => run_report(dump, &Index, dumps, out),
+        Query::Info => run_report(dump, &Info, dumps, out),
+        Query::Procs => run_report(dump, &ProcessTable, dumps, out),
         Query::Proc { pid } => {
             let pid = pid.as_bytes();
-            run_report(alloc, file, &Proc { pid }, limits, dumps, out)
+            run_report(dump, &Proc { pid }, dumps, out)
         }
-        Query::Memory => run_report(alloc, file, &Memory, limits, dumps, out),
+        Query::Memory => run_report(dump, &Memory, dumps, out),
         Query::Field { key } => {
             let key = key.as_bytes();
-            run_report(alloc, file, &Field { key }, limits, dumps, out)
+            run_report(dump, &Field { key }, dumps, out)
         }
-        Query::Table { kind } => run_report(alloc, file, &Table { kind }, limits, dumps, out),
+        Query::Table { kind } => run_report(dump, &Table { kind }, dumps, out),
         Query::Roots {
             kind,
             pid,
@@ -120,7 +126,7 @@ fn run_query<D: Dumps, K: Sink>(
                 nodes,
                 marked,
             };
-            run_report(alloc, file, &roots, limits, dumps, out)
+            run_report(dump, &roots, dumps, out)
         }
         Query::Term {
             pid,
@@ -134,7 +140,7 @@ fn run_query<D: Dumps, K: Sink>(
                 nodes,
                 marked,
             };
-            run_report(alloc, file, &term, limits, dumps, out)
+            run_report(dump, &term, dumps, out)
         }
         Query::PeekTerm {
             pid,
@@ -148,7 +154,7 @@ fn run_query<D: Dumps, K: Sink>(
                 nodes,
                 marked,
             };
-            run_report(alloc, file, &term, limits, dumps, out)
+            run_report(dump, &term, dumps, out)
         }
         Query::PeekRoots {
             kind,
@@ -166,57 +172,42 @@ fn run_query<D: Dumps, K: Sink>(
                 nodes,
                 marked,
             };
-            run_report(alloc, file, &roots, limits, dumps, out)
+            run_report(dump, &roots, dumps, out)
         }
         Query::Ext { pid, addr } => {
             let pid = pid.as_bytes();
-            run_report(alloc, file, &Ext { pid, addr }, limits, dumps, out)
+            run_report(dump, &Ext { pid, addr }, dumps, out)
         }
         Query::Reach { pid } => {
             let pid = pid.as_bytes();
-            run_report(alloc, file, &Reach { pid }, limits, dumps, out)
+            run_report(dump, &Reach { pid }, dumps, out)
         }
         Query::Shapes { pid, count } => {
             let pid = pid.as_bytes();
-            run_report(alloc, file, &Shapes { pid, count }, limits, dumps, out)
+            run_report(dump, &Shapes { pid, count }, dumps, out)
         }
         Query::Weigh { pid, count } => {
             let pid = pid.as_bytes();
-            run_report(alloc, file, &Weigh { pid, count }, limits, dumps, out)
+            run_report(dump, &Weigh { pid, count }, dumps, out)
         }
         Query::WeighCell { pid, count, addr } => {
             let pid = pid.as_bytes();
-            run_report(
-                alloc,
-                file,
-                &WeighCell { pid, count, addr },
-                limits,
-                dumps,
-                out,
-            )
+            run_report(dump, &WeighCell { pid, count, addr }, dumps, out)
         }
         Query::Cells { pid } => {
             let pid = pid.as_bytes();
-            run_report(alloc, file, &Cells { pid }, limits, dumps, out)
+            run_report(dump, &Cells { pid }, dumps, out)
         }
-        Query::Binary { addr } => { run_report(alloc, file, &Binary { addr }, limits, dumps, out) }
-        Query::Binaries => run_report(alloc, file, &Binaries, limits, dumps, out),
-        Query::Holders { addr } => {
-            run_report(alloc, file, &Holders { addr }, limits, dumps, out)
-        }
-        Query::Triage { count } => {
-            run_report(alloc, file, &Triage { count }, limits, dumps, out)
-        }
-        Query::Stacks { count } => {
-            run_report(alloc, file, &StackGroups { count }, limits, dumps, out)
-        }
-        Query::Links => run_report(alloc, file, &Links, limits, dumps, out),
-        Query::Redact => run_redact(alloc, file, limits, dumps, out),
-        Query::Audit { limit, full } => {
-            run_report(alloc, file, &Audit { limit, full }, limits, dumps, out)
-        }
+        Query::Binary { addr } => { run_report(dump, &Binary { addr }, dumps, out) }
+        Query::Binaries => run_report(dump, &Binaries, dumps, out),
+        Query::Holders { addr } => { run_report(dump, &Holders { addr }, dumps, out) }
+        Query::Triage { count } => { run_report(dump, &Triage { count }, dumps, out) }
+        Query::Stacks { count } => { run_report(dump, &StackGroups { count }, dumps, out) }
+        Query::Links => run_report(dump, &Links, dumps, out),
+        Query::Redact => run_redact(dump, dumps, out),
+        Query::Audit { limit, full } => { run_report(dump, &Audit { limit, full }, dumps, out) }
         Query::AuditJson { limit, full } => {
-            run_report(alloc, file, &AuditJson { limit, full }, limits, dumps, out)
+            run_report(dump, &AuditJson { limit, full }, dumps, out)
         }
     }
 }

@@ -8,17 +8,21 @@ use dump_sections::Index;
 use section_index::build;
 use std::alloc::Global;
 
-/// Opens the dump with this name and returns its index.
-pub(crate) fn open<D: Dumps>(
-    alloc: Global,
-    file: &str,
-    limits: &Limits,
-    dumps: &mut D,
-) -> Result<Index, Stop>
-    ensures { MatchResult result (HasOpened file.now limits.now (D.state dumps.old) (D.state dumps.new))
-        (IsUnopened file.now limits.now (D.state dumps.old) (D.state dumps.new)) }
+/// A dump that isn't open yet: its name, the limits within which it is read, and the memory for it.
+#[derive(Clone, Copy)]
+pub(crate) struct Unopened<'a> {
+    pub(crate) alloc: Global,
+    pub(crate) file: &'a str,
+    pub(crate) limits: &'a Limits,
+}
+
+/// Opens a dump and returns its index.
+pub(crate) fn open<D: Dumps>(dump: &Unopened<'_>, dumps: &mut D) -> Result<Index, Stop>
+    ensures { let name = dump.now.file.now in let limits = dump.now.limits.now in
+        MatchResult result (HasOpened name limits (D.state dumps.old) (D.state dumps.new))
+        (IsUnopened name limits (D.state dumps.old) (D.state dumps.new)) }
 {
-    Ok(build(alloc, dumps, file, limits)?)
+    Ok(build(dump.alloc, dumps, dump.file, dump.limits)?)
 }
 
 /// An open dump: its index, the limits within which it is read, and the memory for it.

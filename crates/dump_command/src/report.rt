@@ -6,10 +6,9 @@ ghost use Rattle.dump_command.specs.Meaning.{meaning};
 ghost use Rattle.dump_command.specs.Inner.Runs.{Runs};
 ghost use Rattle.dump_command.specs.Inner.Reading.{ReadsFor, TellsOf};
 
-use crate::open::{Opened, open};
+use crate::open::{Opened, Unopened, open};
 use crate::stop::Stop;
-use dump_io::{Dumps, Limits, Sink};
-use std::alloc::Global;
+use dump_io::{Dumps, Sink};
 
 /// A command that opens a dump, reads all that its report needs, and then writes the report.
 pub(crate) trait Report {
@@ -47,22 +46,20 @@ pub(crate) trait Report {
 
 /// Runs a command from a device to the sink of its report, and returns its status.
 pub(crate) fn run_report<R: Report, D: Dumps, K: Sink>(
-    alloc: Global,
-    file: &str,
+    dump: &Unopened<'_>,
     report: &R,
-    limits: &Limits,
     dumps: &mut D,
     out: &mut K,
 ) -> Result<u8, Stop>
     requires { R.asked report.now }
-    ensures { Runs (on file.now (R.asks report.now)) limits.now
+    ensures { Runs (on dump.now.file.now (R.asks report.now)) dump.now.limits.now
         (D.state dumps.old) (D.state dumps.new) (K.state out.old) (K.state out.new) result }
 {
-    let index = open(alloc, file, limits, dumps)?;
+    let index = open(dump, dumps)?;
     let at = Opened {
-        alloc,
+        alloc: dump.alloc,
         index: &index,
-        limits,
+        limits: dump.limits,
     };
     let loaded = report.read(&at, dumps)?;
     report.put(&at, &loaded, out)

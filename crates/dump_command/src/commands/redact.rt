@@ -4,12 +4,11 @@ ghost use Rattle.command_words.specs.Command.{on, redact};
 ghost use Rattle.dump_command.specs.Inner.Runs.{Runs};
 ghost use Rattle.dump_command.specs.Inner.Stops.{redact_end};
 
-use crate::open::open;
+use crate::open::{Unopened, open};
 use crate::status::DONE;
 use crate::stop::Stop;
-use dump_io::{Dumps, Limits, Sink};
+use dump_io::{Dumps, Sink};
 use dump_redact::{RedactFault, redact};
-use std::alloc::Global;
 
 // How the run ends.
 fn ended(written: Result<(), RedactFault>) -> Result<u8, Stop>
@@ -21,15 +20,13 @@ fn ended(written: Result<(), RedactFault>) -> Result<u8, Stop>
 
 /// Runs the command, and returns its status.
 pub(crate) fn run_redact<D: Dumps, K: Sink>(
-    alloc: Global,
-    file: &str,
-    limits: &Limits,
+    dump: &Unopened<'_>,
     dumps: &mut D,
     out: &mut K,
 ) -> Result<u8, Stop>
-    ensures { Runs (on file.now redact) limits.now
+    ensures { Runs (on dump.now.file.now redact) dump.now.limits.now
         (D.state dumps.old) (D.state dumps.new) (K.state out.old) (K.state out.new) result }
 {
-    let index = open(alloc, file, limits, dumps)?;
-    ended(redact(alloc, dumps, &index, limits, out))
+    let index = open(dump, dumps)?;
+    ended(redact(dump.alloc, dumps, &index, dump.limits, out))
 }
