@@ -1,5 +1,5 @@
 -- Resolving references in place.
-use Rattle.std.proofs.Common.{◌≡◌, ℕ, ◌+◌, ◌<◌, ◌≤◌, ◌⊎◌, ⊎_elim, inl, inr, List, ◌++◌, length, get_or, set, map, Option, None, Some, refl, sym, ◌∙◌, ap, subst, arith, below_more, ◌^◌}
+use Rattle.std.proofs.Common.{◌≡◌, ℕ, zero, suc, [], ◌∷◌, ◌+◌, ◌<◌, ◌≤◌, ◌⊎◌, ⊎_elim, inl, inr, List, ◌++◌, length, get_or, set, map, Option, None, Some, refl, sym, ◌∙◌, ap, subst, arith, below_more, ◌^◌}
 use Rattle.std.specs.Prelude.{slice_get, All, Contains}
 use Rattle.std.specs.Option.{option_map_or}
 use Rattle.std.specs.List.Sorted.{IsPermutation, IsNonDecreasingBy}
@@ -159,3 +159,15 @@ merging-more pairs olds slots references at next k number listed are rise before
   front = λ i j earlier later inside. let less = first.front i earlier in let up = rise k j (0, 0) (omega arith) inside in omega (arith, less, up);
   resolving = λ xs ranked. resolving-more xs olds slots references k number listed are (before.resolving xs ranked) (found xs ranked);
 }
+
+-- ---- slots that are settled before the others
+
+-- a cell that was found for a reference
+pub found-half : (xs : List ℕ) (address n : ℕ) → number_with xs address ≡ Some n → settled xs (slot.Cell (record { 0 = n })) ≡ settled xs (slot.Gone address)
+found-half xs address n found = sym (ap (λ o. option_map_or (λ m. slot.Cell (record { 0 = m })) o (slot.Gone address)) found)
+
+-- one more slot that is as it was or settled
+pub half-more : (f : Slot → Slot) (xs : List Slot) (i : ℕ) (d s : Slot) → i < length xs → f s ≡ f (get_or xs i d) → map f (set xs i s) ≡ map f xs
+half-more f [] i d s inside same = absurd (omega (arith, inside))
+half-more f (x ∷ xs) zero d s inside same = ap (λ y. y ∷ map f xs) same
+half-more f (x ∷ xs) (suc i) d s inside same = ap (λ l. f x ∷ l) (half-more f xs i d s (omega (arith, inside)) same)

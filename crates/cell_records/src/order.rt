@@ -76,7 +76,7 @@ pub fn ranks_of<T: Located>(alloc: Global, cells: &[T]) -> Result<Ranks, AllocEr
 }
 
 // Whether there is a cell with this number, and it has this address.
-fn stands_at<T: Located>(cells: &[T], number: u32, address: u64) -> bool
+pub(crate) fn stands_at<T: Located>(cells: &[T], number: u32, address: u64) -> bool
     ensures { result ≡ true → StandsAt (map T.address cells.now) number address }
 {
     match cells.get(number as usize) {

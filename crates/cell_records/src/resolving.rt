@@ -1,11 +1,13 @@
 // Resolving references to the cells that they lead to.
-ghost use Rattle.std.specs.Prelude.{◌≡◌, ℕ, ◌<◌, ◌≤◌, ◌++◌, length, slice_index_or, IfOk, OnOk, ◌^◌, []};
+ghost use Rattle.std.specs.Prelude.{◌≡◌, ℕ, ◌<◌, ◌≤◌, ◌++◌, length, slice_index_or, map, Some, IfSome, IfOk, OnOk, ◌^◌, []};
 ghost use Rattle.std.specs.List.Sorted.{IsNonDecreasingBy};
-ghost use Rattle.cell_records.specs.Resolving.{AreSettled};
+ghost use Rattle.cell_records.specs.Order.{addresses_of, number_with, AreAllFirst, AreRanked};
+ghost use Rattle.cell_records.specs.Resolving.{settled, AreSettled};
 ghost use Rattle.cell_records.specs.Inner.Places.{IsFirstFrom};
-ghost use Rattle.cell_records.specs.Inner.References.{reference_of, found_at, AreReferences};
+ghost use Rattle.cell_records.specs.Inner.References.{reference_of, found_at, AreReferences, IsHalfSettled};
 
-use crate::cells::{CellIx, Slot};
+use crate::cells::{CellIx, CellRecord, Slot};
+use crate::order::{number_near, stands_at};
 use crate::ranks::{Ranks, number_there};
 use std::alloc::{AllocError, Global};
 
@@ -119,11 +121,98 @@ fn resolve_parts(
     resolve_parts(alloc, rest, ranks, halvings - 1)
 }
 
-// Makes each reference to the address of a cell that cell, if there is memory. The pairs
-// are the addresses of the cells with their numbers, sorted.
-pub(crate) fn resolve(alloc: Global, slots: &mut Vec<Slot>, ranks: &Ranks) -> Result<(), AllocError>
-    requires { length slots.old.items < 2 ^ 32 }
-    ensures { OnOk result (AreSettled ranks.now slots.old.items slots.new.items) }
+// After how many references that led one cell further a search is worth its time, where one leads elsewhere.
+const RUN: u32 = 8;
+
+// Where the next reference is looked for before it is searched for.
+#[derive(Clone, Copy)]
+pub(crate) struct Near {
+    // The cell behind the one to which the last reference led.
+    cell: u32,
+    // How many references in a row led there.
+    run: u32,
+}
+
+// The number of the cell with an address, if it is near, or if it is worth a search.
+fn look_near(ranks: &Ranks, cells: &[CellRecord], address: u64, near: &mut Near) -> Option<u32>
+    requires ranked { AreRanked (addresses_of cells.now) ranks.now }
+    requires distinct { AreAllFirst (addresses_of cells.now) }
+    ensures { IfSome result (λ n. number_with (addresses_of cells.now) address ≡ Some n) }
 {
+    if near.run < RUN && !stands_at(cells, near.cell, address) {
+        return None;
+    }
+    number_near(ranks, cells, near.cell, address)
+}
+
+// The slot with its reference resolved, if that is easily told.
+fn settled_near(slot: Slot, ranks: &Ranks, cells: &[CellRecord], near: &mut Near) -> Slot
+    requires ranked { AreRanked (addresses_of cells.now) ranks.now }
+    requires distinct { AreAllFirst (addresses_of cells.now) }
+    ensures { IsHalfSettled (addresses_of cells.now) slot result }
+{
+    let Slot::Gone(address) = slot else {
+        return slot;
+    };
+    let Some(number) = look_near(ranks, cells, address, near) else {
+        return slot;
+    };
+    let run = if number == near.cell {
+        near.run.saturating_add(1)
+    } else {
+        0
+    };
+    *near = Near {
+        cell: number + 1,
+        run,
+    };
+    Slot::Cell(CellIx::new(number))
+}
+
+// Resolves the references that are easily told. Mostly a reference leads to the cell
+// behind the one to which the reference before it led.
+fn resolve_near(slots: &mut [Slot], ranks: &Ranks, cells: &[CellRecord])
+    requires ranked { AreRanked (addresses_of cells.now) ranks.now }
+    requires distinct { AreAllFirst (addresses_of cells.now) }
+    ensures count { length slots.new ≡ length slots.old }
+    ensures half { map (settled (addresses_of cells.now)) slots.new
+        ≡ map (settled (addresses_of cells.now)) slots.old }
+{
+    let mut near = Near { cell: 0, run: RUN };
+    for i in 0..slots.len() {
+        slots[i] = settled_near(slots[i], ranks, cells, &mut near);
+    }
+}
+
+// The others are sorted.
+fn resolve(
+    alloc: Global,
+    slots: &mut [Slot],
+    ranks: &Ranks,
+    cells: &[CellRecord],
+) -> Result<(), AllocError>
+    requires few { length slots.old < 2 ^ 32 }
+    requires ranked { AreRanked (addresses_of cells.now) ranks.now }
+    requires distinct { AreAllFirst (addresses_of cells.now) }
+    ensures { OnOk result (slots.new ≡ map (settled (addresses_of cells.now)) slots.old) }
+{
+    resolve_near(slots, ranks, cells);
     resolve_parts(alloc, slots, ranks, 2)
+}
+
+/// The slots, with each reference to the address of a cell resolved to that cell, if there is
+/// memory. The pairs are the addresses of the cells with their numbers, sorted.
+pub(crate) fn resolved(
+    alloc: Global,
+    mut slots: Vec<Slot>,
+    ranks: &Ranks,
+    cells: &[CellRecord],
+) -> Result<Vec<Slot>, AllocError>
+    requires few { length slots.items < 2 ^ 32 }
+    requires ranked { AreRanked (addresses_of cells.now) ranks.now }
+    requires distinct { AreAllFirst (addresses_of cells.now) }
+    ensures { IfOk result (λ new. new.items ≡ map (settled (addresses_of cells.now)) slots.items) }
+{
+    resolve(alloc, &mut slots, ranks, cells)?;
+    Ok(slots)
 }

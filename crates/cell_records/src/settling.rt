@@ -5,7 +5,7 @@ ghost use Rattle.cell_records.specs.Slots.{AreOrdered};
 
 use crate::arena::Arena;
 use crate::keeping::{Indexed, index_cells};
-use crate::resolving::resolve;
+use crate::resolving::resolved;
 use std::alloc::{AllocError, Global};
 
 /// Cells whose references lead to cells, with the order of their addresses.
@@ -29,12 +29,13 @@ pub fn settle(alloc: Global, all: Arena, own: usize) -> Result<Settled, AllocErr
     requires ordered { AreOrdered all.cells.items (length all.slots.items) }
     ensures { IfOk result (IsSettled all own) }
 {
-    let Indexed {
-        mut arena,
-        ranks,
-        own,
-    } = index_cells(alloc, all, own)?;
-    resolve(alloc, &mut arena.slots, &ranks)?;
+    let Indexed { arena, ranks, own } = index_cells(alloc, all, own)?;
+    let Arena { cells, slots } = arena;
+    let slots = resolved(alloc, slots, &ranks, &cells)?;
     let order = ranks.numbers(alloc)?;
-    Ok(Settled { arena, order, own })
+    Ok(Settled {
+        arena: Arena { cells, slots },
+        order,
+        own,
+    })
 }

@@ -17,6 +17,7 @@ use heap_cells::Heap;
 use term_forms::shapes::Elem;
 
 /// The child that comes next. Leaves the innermost cells that have none left.
+#[inline(always)]
 pub(crate) fn next_child<'h>(heap: &'h Heap, path: &mut Path) -> Option<Child<'h>>
     requires serves { Serves heap.now path.old.cells }
     ensures cells { path.new.cells ≡ path.old.cells }
@@ -60,6 +61,7 @@ fn judge_opened(opened: Opened) -> Verdict
 }
 
 /// Visits a child of the innermost cell, and returns what it was opened as.
+#[inline(always)]
 pub(crate) fn visit(heap: &Heap, path: &mut Path, child: Child<'_>) -> Opened
     requires serves { Serves heap.now path.old.cells }
     requires few { length path.old.entries ≤ length heap.now.cells }

@@ -3,7 +3,7 @@ use Rattle.std.specs.Prelude.{◌≡◌, ℕ, ◌≤◌, ◌⊎◌, length}
 use Rattle.cell_records.specs.declared.arena.Arena.{Arena}
 use Rattle.cell_records.specs.declared.keeping.Indexed.{Indexed}
 use Rattle.cell_records.specs.Keeping.{kept_upto, AreAllKept, AreFirstKept}
-use Rattle.cell_records.specs.Order.{addresses_of, AreRanked}
+use Rattle.cell_records.specs.Order.{addresses_of, AreAllFirst, AreRanked}
 
 -- what is kept of the records before the one with number i
 pub record IsKeeping (all kept : Arena) (i : ℕ) : Type 0 where
@@ -27,5 +27,6 @@ pub record IsRankedArena (arena : Arena) (own : ℕ) (found : Indexed) : Type 0 
 pub record IsKeptIndex (all : Arena) (own : ℕ) (found : Indexed) : Type 0 where
   pub kept : AreAllKept all own found.arena found.own ⊎ AreFirstKept all own found.arena found.own
   pub ranks_are : AreRanked (addresses_of found.arena.cells.items) found.ranks
+  pub first : AreAllFirst (addresses_of found.arena.cells.items)
   pub few_cells : length found.arena.cells.items ≤ length all.cells.items
   pub few_slots : length found.arena.slots.items ≤ length all.slots.items
