@@ -1,12 +1,1 @@
-pub mod Audits
-pub mod BinaryLoads
-pub mod HeapLoads
-pub mod HolderLoads
-pub mod NodeLoads
-pub mod Opened
-pub mod PartLoads
-pub mod Reading
-pub mod Redacting
-pub mod Runs
-pub mod TriageLoads
-pub mod WeightLoads
+mod Asked

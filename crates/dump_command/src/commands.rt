@@ -1,67 +1,24 @@
-// Each command: what it loads, and what it writes.
-ghost use Rattle.command_words.specs.Command.{on, shown_command, shown_query, IsAskInRange, IsInRange};
-ghost use Rattle.dump_command.specs.Inner.Runs.{Runs, RunsOn};
+// Which question each command is.
+ghost use Rattle.command_words.specs.Command.{shown_command, shown_query, IsAskInRange, IsInRange};
+ghost use Rattle.dump_questions.specs.Runs.{Runs};
+ghost use Rattle.dump_questions.specs.Tasks.{question};
+ghost use Rattle.dump_command.specs.Meaning.{meaning};
+ghost use Rattle.dump_command.specs.Runs.{RunsOn};
 
-mod audit;
-mod audit_json;
-mod binaries;
-mod binary;
-mod cells;
-mod ext;
-mod field;
-mod holders;
-mod index;
-mod info;
-mod links;
-mod make;
-mod memory;
-mod peek;
-mod proc;
-mod procs;
-mod reach;
-mod redact;
-mod roots;
-mod shapes;
-mod stacks;
-mod subjects;
-mod tables;
-mod term;
-mod triage;
-mod trial;
-mod weigh;
-
-use crate::open::Unopened;
-use crate::report::run_report;
-use crate::stop::Stop;
-use audit::Audit;
-use audit_json::AuditJson;
-use binaries::Binaries;
-use binary::Binary;
-use cells::Cells;
 use command_words::{Cmd, Query};
 use dump_io::{Dumps, Limits, Sink};
-use ext::Ext;
-use field::Field;
-use holders::Holders;
-use index::Index;
-use info::Info;
-use links::Links;
-use make::run_make;
-use memory::Memory;
-use peek::{PeekRoots, PeekTerm};
-use proc::Proc;
-use procs::ProcessTable;
-use reach::Reach;
-use redact::run_redact;
-use roots::Roots;
-use shapes::Shapes;
-use stacks::StackGroups;
+use dump_questions::{Stop, Unopened};
+use heap_commands::{
+    run_binary, run_cells, run_ext, run_peek_roots, run_peek_term, run_reach, run_roots, run_term,
+};
 use std::alloc::Global;
-use tables::Table;
-use term::Term;
-use triage::Triage;
-use trial::run_trial;
-use weigh::{Weigh, WeighCell};
+use stream_commands::{
+    run_binaries, run_holders, run_redact, run_shapes, run_stacks, run_weigh, run_weigh_cell,
+};
+use table_commands::{
+    run_audit, run_audit_json, run_field, run_index, run_info, run_links, run_make, run_memory,
+    run_proc, run_procs, run_table, run_triage, run_trial,
+};
 
 /// Runs a command from a device to the sink of its report, and returns its status.
 pub(crate) fn run_command<D: Dumps, K: Sink>(
@@ -97,65 +54,35 @@ fn run_query<D: Dumps, K: Sink>(
     out: &mut K,
 ) -> Result<u8, Stop>
     requires { IsAskInRange (shown_query query) }
-    ensures { Runs (on dump.now.file.now (shown_query query.entry)) dump.now.limits.now
+    ensures { Runs (question dump.now.file.now (meaning (shown_query query.entry))) dump.now.limits.now
         (D.state dumps.old) (D.state dumps.new) (K.state out.old) (K.state out.new) result }
 {
     match query {
-        Query::Index => run_report(dump, &Index, dumps, out),
-        Query::Info => run_report(dump, &Info, dumps, out),
-        Query::Procs => run_report(dump, &ProcessTable, dumps, out),
-        Query::Proc { pid } => {
-            let pid = pid.as_bytes();
-            run_report(dump, &Proc { pid }, dumps, out)
-        }
-        Query::Memory => run_report(dump, &Memory, dumps, out),
-        Query::Field { key } => {
-            let key = key.as_bytes();
-            run_report(dump, &Field { key }, dumps, out)
-        }
-        Query::Table { kind } => run_report(dump, &Table { kind }, dumps, out),
+        Query::Index => run_index(dump, dumps, out),
+        Query::Info => run_info(dump, dumps, out),
+        Query::Procs => run_procs(dump, dumps, out),
+        Query::Proc { pid } => run_proc(dump, pid.as_bytes(), dumps, out),
+        Query::Memory => run_memory(dump, dumps, out),
+        Query::Field { key } => run_field(dump, key.as_bytes(), dumps, out),
+        Query::Table { kind } => run_table(dump, kind, dumps, out),
         Query::Roots {
             kind,
             pid,
             nodes,
             marked,
-        } => {
-            let roots = Roots {
-                pid: pid.as_bytes(),
-                kind,
-                nodes,
-                marked,
-            };
-            run_report(dump, &roots, dumps, out)
-        }
+        } => run_roots(dump, kind, pid.as_bytes(), nodes, marked, dumps, out),
         Query::Term {
             pid,
             addr,
             nodes,
             marked,
-        } => {
-            let term = Term {
-                pid: pid.as_bytes(),
-                addr,
-                nodes,
-                marked,
-            };
-            run_report(dump, &term, dumps, out)
-        }
+        } => run_term(dump, pid.as_bytes(), addr, nodes, marked, dumps, out),
         Query::PeekTerm {
             pid,
             addr,
             nodes,
             marked,
-        } => {
-            let term = PeekTerm {
-                pid: pid.as_bytes(),
-                addr,
-                nodes,
-                marked,
-            };
-            run_report(dump, &term, dumps, out)
-        }
+        } => run_peek_term(dump, pid.as_bytes(), addr, nodes, marked, dumps, out),
         Query::PeekRoots {
             kind,
             pid,
@@ -163,51 +90,38 @@ fn run_query<D: Dumps, K: Sink>(
             count,
             nodes,
             marked,
-        } => {
-            let roots = PeekRoots {
-                pid: pid.as_bytes(),
-                kind,
-                first,
-                count,
-                nodes,
-                marked,
-            };
-            run_report(dump, &roots, dumps, out)
-        }
-        Query::Ext { pid, addr } => {
-            let pid = pid.as_bytes();
-            run_report(dump, &Ext { pid, addr }, dumps, out)
-        }
-        Query::Reach { pid } => {
-            let pid = pid.as_bytes();
-            run_report(dump, &Reach { pid }, dumps, out)
-        }
-        Query::Shapes { pid, count } => {
-            let pid = pid.as_bytes();
-            run_report(dump, &Shapes { pid, count }, dumps, out)
-        }
-        Query::Weigh { pid, count } => {
-            let pid = pid.as_bytes();
-            run_report(dump, &Weigh { pid, count }, dumps, out)
-        }
-        Query::WeighCell { pid, count, addr } => {
-            let pid = pid.as_bytes();
-            run_report(dump, &WeighCell { pid, count, addr }, dumps, out)
-        }
-        Query::Cells { pid } => {
-            let pid = pid.as_bytes();
-            run_report(dump, &Cells { pid }, dumps, out)
-        }
-        Query::Binary { addr } => { run_report(dump, &Binary { addr }, dumps, out) }
-        Query::Binaries => run_report(dump, &Binaries, dumps, out),
-        Query::Holders { addr } => { run_report(dump, &Holders { addr }, dumps, out) }
-        Query::Triage { count } => { run_report(dump, &Triage { count }, dumps, out) }
-        Query::Stacks { count } => { run_report(dump, &StackGroups { count }, dumps, out) }
-        Query::Links => run_report(dump, &Links, dumps, out),
+        } => run_peek_roots(
+            dump,
+            kind,
+            pid.as_bytes(),
+            first,
+            count,
+            nodes,
+            marked,
+            dumps,
+            out,
+        ),
+        Query::Ext { pid, addr } => run_ext(dump, pid.as_bytes(), addr, dumps, out),
+        Query::Reach { pid } => run_reach(dump, pid.as_bytes(), dumps, out),
+        Query::Shapes { pid, count } => run_shapes(dump, pid.as_bytes(), count, dumps, out),
+        Query::Weigh { pid, count } => run_weigh(dump, pid.as_bytes(), count, dumps, out),
+        Query::WeighCell { pid, count, addr } => run_weigh_cell(
+            dump,
+            pid.as_bytes(),
+            count,
+            addr,
+            dumps,
+            out,
+        ),
+        Query::Cells { pid } => run_cells(dump, pid.as_bytes(), dumps, out),
+        Query::Binary { addr } => run_binary(dump, addr, dumps, out),
+        Query::Binaries => run_binaries(dump, dumps, out),
+        Query::Holders { addr } => run_holders(dump, addr, dumps, out),
+        Query::Triage { count } => run_triage(dump, count, dumps, out),
+        Query::Stacks { count } => run_stacks(dump, count, dumps, out),
+        Query::Links => run_links(dump, dumps, out),
         Query::Redact => run_redact(dump, dumps, out),
-        Query::Audit { limit, full } => { run_report(dump, &Audit { limit, full }, dumps, out) }
-        Query::AuditJson { limit, full } => {
-            run_report(dump, &AuditJson { limit, full }, dumps, out)
-        }
+        Query::Audit { limit, full } => run_audit(dump, limit, full, dumps, out),
+        Query::AuditJson { limit, full } => run_audit_json(dump, limit, full, dumps, out),
     }
 }

@@ -8,18 +8,13 @@
 //! let status = run(rt.alloc(), &words, &Limits::usual(), &mut dumps, &mut out, &mut err);
 //! ```
 //!
-//! A command loads what its report needs and then writes it. Why it ends
-//! without its whole report is a `Stop`, to which `?` converts the faults of
-//! all layers; [`run`] turns a `Stop` into a status of [`status`] and a line.
+//! Each command is a question of dump_questions, whose crates have its meaning, what
+//! it reads and what it writes; here stands which command is which question.
 #![tactic(auto)]
 
 mod commands;
-mod ending;
-mod open;
-mod report;
 mod runner;
-pub mod status;
-mod stop;
 
 pub use command_words::{Cmd, Query, read_words};
+pub use dump_questions::status;
 pub use runner::run;

@@ -5,13 +5,13 @@ ghost use Rattle.std.specs.String.{string_bytes};
 ghost use Rattle.dump_io.specs.Dumps.{DeviceFailed};
 ghost use Rattle.dump_io.specs.Sinks.{SinkFailed};
 ghost use Rattle.command_words.specs.Command.{Command, command, file_name};
-ghost use Rattle.dump_command.specs.Report.{refusal, report_status};
-ghost use Rattle.dump_command.specs.Run.{IsDumpOf, IsRunOf, IsUsage};
+ghost use Rattle.dump_questions.specs.Run.{IsDumpOf, IsRunOf, IsUsage};
+ghost use Rattle.dump_command.specs.Report.{refusal, report_status, task};
 
 use crate::commands::run_command;
-use crate::ending::{end, put_usage};
 use command_words::read_words;
 use dump_io::{Dumps, Limits, Sink};
+use dump_questions::{end, put_usage};
 use std::alloc::Global;
 
 /// Runs the command that the words after the program's name are, and returns its status.
@@ -54,12 +54,12 @@ pub fn run<D: Dumps, K: Sink, E: Sink>(
     ensures idle { option_and_then file_name (command (map string_bytes words.now)) ≡ None → dumps.new ≡ dumps.old }
 
     // What is left if they are one.
-    ensures ends { (cmd : Command) → command (map string_bytes words.now) ≡ Some cmd → IsRunOf cmd limits.now result
+    ensures ends { (cmd : Command) → command (map string_bytes words.now) ≡ Some cmd → IsRunOf (task cmd) limits.now result
         (D.state dumps.old) (D.state dumps.new) (K.state out.old) (K.state out.new) (E.state err.old) (E.state err.new) }
 
     // If nothing is refused and nothing failed, the whole report was written, or memory was lacking.
     ensures complete { (cmd : Command) (bytes : List ℕ) → command (map string_bytes words.now) ≡ Some cmd
-        → IsDumpOf (D.state dumps.old) (D.state dumps.new) cmd bytes → refusal cmd bytes limits.now ≡ None
+        → IsDumpOf (D.state dumps.old) (D.state dumps.new) (task cmd) bytes → refusal cmd bytes limits.now ≡ None
         → ¬ DeviceFailed (D.state dumps.old) (D.state dumps.new)
         → ¬ SinkFailed (K.state out.old) (K.state out.new) → ¬ SinkFailed (E.state err.old) (E.state err.new)
         → (result ≡ report_status cmd bytes) ⊎ (result ≡ 6) }

@@ -11,9 +11,9 @@ use Rattle.heap_cells.specs.Loading.{heap_bodies}
 use Rattle.root_views.specs.Sections.{root_section}
 use Rattle.term_text.specs.Roots.{answer_over, shown_report}
 use Rattle.term_unfold.specs.DumpWalks.{walk_of}
-use Rattle.dump_command.specs.Meaning.{no_process, part_in}
-use Rattle.dump_command.specs.Report.{too_large}
-use Rattle.dump_command.specs.Terms.{no_address, too_dense}
+use Rattle.dump_questions.specs.Meaning.{no_process, part_in}
+use Rattle.dump_questions.specs.Tasks.{too_large}
+use Rattle.dump_questions.specs.Heaps.{no_address, too_dense}
 use Rattle.dump_laws.specs.Laws.{found_roots}
 use Rattle.dump_laws.specs.Peeks.{PeeksRoots, PeeksTerms}
 

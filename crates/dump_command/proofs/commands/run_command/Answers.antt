@@ -1,6 +1,6 @@
 use Rattle.std.proofs.Common.{ap, refl, rules}
 use Rattle.command_words.specs.Command.{shown_command}
-use Rattle.dump_command.proofs.Runs.{runs-alone, runs-on}
+use Rattle.dump_command.proofs.Asked.{runs-alone, runs-on}
 use Rattle.dump_command.proofs.commands.run_command.Goals as goal
 
 pub returns-in-On : goal.returns-in-On

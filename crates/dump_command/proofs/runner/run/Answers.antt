@@ -1,5 +1,7 @@
 use Rattle.std.proofs.Common.{sym}
-use Rattle.dump_command.proofs.Runs.{IsProper-ended, IsRunOf-ended, IsRunOf-same, IsRunOf-complete}
+use Rattle.dump_questions.proofs.Runs.{IsProper-ended, IsRunOf-ended, IsRunOf-complete}
+use Rattle.dump_command.proofs.Asked.{IsRunOf-same}
+use Rattle.dump_command.specs.Report.{task}
 use Rattle.dump_command.proofs.runner.run.Goals as goal
 
 pub end-requires : goal.end-requires
@@ -11,4 +13,4 @@ returns-in-Some-clause-ends g c cmd is =
 
 pub returns-in-Some-clause-complete : goal.returns-in-Some-clause-complete
 returns-in-Some-clause-complete g c cmd bytes is =
-    IsRunOf-complete cmd _ _ _ _ _ _ _ _ (returns-in-Some-clause-ends g c cmd is) bytes
+    IsRunOf-complete (task cmd) _ _ _ _ _ _ _ _ (returns-in-Some-clause-ends g c cmd is) bytes

@@ -1,8 +1,0 @@
-use Rattle.dump_command.proofs.HeapLoads.{reads-cells}
-use Rattle.dump_command.proofs.Reading.{ReadsAtMost-same}
-use Rattle.dump_command.proofs.commands.cells.CellsReport.read.Goals as goal
-
-pub returns-clause-reads : goal.returns-clause-reads
-returns-clause-reads g c =
-    let read = c.load_heap.ensures in
-    reads-cells c.args.self.now.pid.now _ _ _ _ _ read.reads (λ some. ReadsAtMost-same g.D.Dumps.state _ _ _ read.reads (read.unread some)) read.heap

@@ -1,0 +1,5 @@
+pub mod Bodies
+pub mod HeapLoads
+pub mod Openings
+pub mod Reading
+pub mod Runs

@@ -1,0 +1,3 @@
+mod BinaryLoads
+mod PartLoads
+mod RootLoads

@@ -1,0 +1,31 @@
+use Rattle.std.proofs.Common.{◌++◌, ◌∷◌, [], ap, arith, refl, rules, Bool, List, Some, ℕ}
+use Rattle.dump_io.specs.Laws.Reads.{ReadsAtMost-none}
+use Rattle.report_lines.specs.Lines.{newline}
+use Rattle.term_forms.specs.Elements.{Ref}
+use Rattle.term_text.specs.Roots.{answer_over, term_report}
+use Rattle.term_unfold.specs.Walks.{Walk}
+use Rattle.heap_commands.specs.Loads.{walk_in}
+use Rattle.heap_commands.proofs.PartLoads.{ReadsFor-peeked}
+use Rattle.dump_questions.proofs.Reading.{IsHalted-subject, ReadsFor-halted}
+use Rattle.heap_commands.specs.Rows.{peek_term_row}
+use Rattle.heap_commands.proofs.peek.PeekTermReport.read.Goals as goal
+
+-- the report on a term, over what a walker goes
+abbrev text : ℕ → ℕ → Bool → List ℕ → Walk → List ℕ
+text addr nodes marked bytes walk = term_report (answer_over walk nodes marked) addr
+
+pub returns-in_err-find_process-clause-reads : goal.returns-in_err-find_process-clause-reads
+returns-in_err-find_process-clause-reads g c =
+    let t = c.args.self.now in
+    ReadsFor-halted _ _ c.from_residual.result _ c.from_residual.ensures.1
+    (IsHalted-subject (peek_term_row t.pid.now t.addr t.nodes t.marked) _ c.args.at.now.index.now _ _ ℕ _ (search rules) c.in_err-find_process.ensures.judges)
+
+pub returns-clause-reads : goal.returns-clause-reads
+returns-clause-reads g c =
+    let t = c.args.self.now in
+    let at = c.args.at.now in
+    ReadsFor-peeked t.pid.now (Some t.addr) (text t.addr t.nodes t.marked) at.limits.now at.index.now
+    (g.D.Dumps.state c.args.dumps.now) (g.D.Dumps.state c.load_terms.new.dumps) (Ref t.addr ∷ []) t.nodes
+    (λ part. text t.addr t.nodes t.marked [] (walk_in part)) c.load_terms.result
+    c.in_ok-find_process.ensures.judges (ReadsAtMost-none 0 (search rules)) c.load_terms.ensures.gives
+    (λ part bytes answers. ap (λ text. text ++ newline) (answers (Ref t.addr) (0, omega arith, refl) t.marked))

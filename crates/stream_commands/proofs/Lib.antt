@@ -1,0 +1,4 @@
+mod HolderLoads
+mod NodeLoads
+mod Redacting
+mod WeightLoads

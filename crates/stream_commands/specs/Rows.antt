@@ -1,0 +1,102 @@
+-- What each question of this crate means, in one row.
+use Rattle.dump_questions.specs.Meaning.{memory_body, memory_section, no_body, of_bodies, Meaning}
+use Rattle.dump_questions.specs.Heaps.{never, no_address, of_any_size, of_weights}
+use Rattle.std.specs.Prelude.{◌++◌, ◌+◌, [], length, true, List, ℕ}
+use Rattle.std.specs.Option.{option_map_or, option_to_list}
+use Rattle.dump_sections.specs.Bodies.{body_in}
+use Rattle.dump_sections.specs.Index.{index_of, sections_in, Contents}
+use Rattle.dump_sections.specs.Loading.{bodies_length}
+use Rattle.dump_sections.specs.Sections.{sections, Section}
+use Rattle.root_views.specs.Sections.{root_bodies, root_section}
+use Rattle.root_views.specs.declared.kinds.RootKind.TheVariants.{Mail}
+use Rattle.process_table.specs.Processes.{process_table, Process}
+use Rattle.process_table.specs.Records.{record_sections}
+use Rattle.heap_cells.specs.Loading.{heap_bodies}
+use Rattle.binary_holders.specs.Usage.{fronts_length, heaps_length, holders_in, pids_of, usage_of, Usage}
+use Rattle.glance_text.specs.Holders.{binaries_report, holders_report}
+use Rattle.process_stacks.specs.Groups.{found_from, Found}
+use Rattle.process_stacks.specs.Rows.{stack_rows, stacks_length}
+use Rattle.section_rows.specs.Rows.{Row}
+use Rattle.stack_text.specs.Stacks.{stacks_report}
+use Rattle.message_shapes.specs.Messages.{mail_shapes}
+use Rattle.shape_text.specs.Shapes.{shapes_report}
+use Rattle.part_weights.specs.Weights.{address_weighing, root_weighing}
+use Rattle.weight_text.specs.Weights.{weights_report}
+use Rattle.dump_redact.specs.Redacted.{redacted}
+use Rattle.dump_redact.specs.Refusals.{heap_sections}
+
+-- the processes of a dump, and what they hold of its binaries
+pub record Held (A : Type 0) : Type 0 where
+  pub index : Contents
+  pub processes : List Process
+  pub held : A
+
+-- those of the dump with these bytes, of which this tells what processes with these pids hold
+abbrev pub held_by : {A : Type 0} → (List ℕ → Contents → List (List ℕ) → A) → List ℕ → Held A
+held_by held bytes =
+    let processes = (process_table bytes).processes in record { index = index_of bytes; processes = processes; held = held bytes (index_of bytes) (pids_of processes) }
+
+-- the use of the binaries of a dump, and the body of its first section on memory
+pub record Used : Type 0 where
+  pub usage : Usage
+  pub memory : List ℕ
+
+-- those of the dump with these bytes and this index, by processes with these pids
+abbrev pub used_in : List ℕ → Contents → List (List ℕ) → Used
+used_in bytes i pids = record { usage = usage_of bytes i pids; memory = body_in bytes (memory_section (sections_in i)) }
+
+-- the report of `binaries`
+abbrev pub used_report : Contents → List Process → Used → List ℕ
+used_report i processes used = binaries_report i used.memory processes used.usage
+
+-- what is loaded of the processes of a dump, and their groups by the places at which they stand
+pub record Stacked : Type 0 where
+  pub rows : List Row
+  pub found : Found
+
+-- those of the dump with these bytes
+abbrev pub stacked_in : List ℕ → Stacked
+stacked_in bytes = record { rows = stack_rows bytes; found = found_from bytes (index_of bytes) (stack_rows bytes) }
+
+-- one that loads these bodies and then the processes, and looks through their heaps
+-- for what they hold: by the index and the pids it takes so many bytes more
+abbrev pub of_holders : {A : Type 0} → (List Section → List Section) → (Contents → List (List ℕ) → ℕ)
+    → (List ℕ → Contents → List (List ℕ) → A) → (Contents → List Process → A → List ℕ) → Meaning
+of_holders {A} before more held show =
+    let bodies : List Section → List Section = λ ss. before ss ++ record_sections ss in
+    record (of_bodies bodies (held_by held) (λ h. show h.index h.processes h.held)) {
+      takes = λ limits bytes. bodies_length (bodies (sections bytes)) + more (index_of bytes) (pids_of (process_table bytes).processes);
+    }
+
+-- what kinds of messages the process with this pid has in its mailbox, at most this many of them
+abbrev pub shapes_row : List ℕ → ℕ → Meaning
+shapes_row pid most =
+    of_any_size pid (λ ss. option_to_list (root_section Mail pid ss)) never (λ bytes. mail_shapes bytes (index_of bytes) pid) (shapes_report most) (λ limits bytes. bodies_length (heap_bodies pid (sections bytes)))
+
+-- what each of the cells alone holds to which the roots of the process with this pid refer, at most this many of them
+abbrev pub weigh_row : List ℕ → ℕ → Meaning
+weigh_row pid most = of_weights pid (root_bodies pid) never (λ bytes. root_weighing bytes (index_of bytes) pid) (weights_report most)
+
+-- the same of the cells to which the elements of the cell at this address refer
+abbrev pub weigh_cell_row : List ℕ → ℕ → ℕ → Meaning
+weigh_cell_row pid most addr =
+    of_weights pid no_body (no_address addr) (λ bytes. address_weighing bytes (index_of bytes) pid addr) (λ found. option_map_or (weights_report most) found [])
+
+-- which processes hold the binary with this address
+abbrev pub holders_row : ℕ → Meaning
+holders_row addr = of_holders no_body heaps_length (λ bytes i pids. holders_in bytes i pids addr) holders_report
+
+-- which processes hold how much of the binaries
+abbrev pub binaries_row : Meaning
+binaries_row = of_holders memory_body (λ i pids. fronts_length i + heaps_length i pids) used_in used_report
+
+-- which processes stand at the same place, with at most this many groups
+abbrev pub stacks_row : ℕ → Meaning
+stacks_row most =
+    record (of_bodies record_sections stacked_in (λ s. stacks_report most s.rows s.found)) {
+      takes = λ limits bytes. bodies_length (record_sections (sections bytes)) + stacks_length (index_of bytes) (stack_rows bytes);
+    }
+
+-- the dump with its payloads made zero: it is copied from the whole dump
+abbrev pub redact_row : Meaning
+redact_row = record (of_bodies heap_sections (λ bytes. bytes) redacted) { takes = λ limits bytes. length bytes; streams = true }

@@ -1,0 +1,49 @@
+// `shapes`: what kinds of messages are in a process's mailbox.
+ghost use Rattle.stream_commands.specs.Rows.{shapes_row};
+ghost use Rattle.dump_questions.specs.Runs.{Runs};
+ghost use Rattle.dump_questions.specs.Tasks.{question};
+
+use dump_io::{Dumps, Sink};
+use dump_questions::status::DONE;
+use dump_questions::{Opened, Report, Stop, Unopened, find_process, run_report};
+use message_shapes::MailShapes;
+use shape_text::put_shapes;
+
+#[derive(Clone, Copy)]
+pub(crate) struct Shapes<'a> {
+    pub pid: &'a [u8],
+    pub count: u32,
+}
+
+impl Report for Shapes<'_> {
+    type Loaded = MailShapes;
+
+    ghost means = { λ c. shapes_row c.pid.now c.count };
+
+    ghost seen = { λ _ _ shapes. shapes };
+
+    fn read<D: Dumps>(&self, at: &Opened<'_>, dumps: &mut D) -> Result<MailShapes, Stop> {
+        find_process(at, self.pid)?;
+        let shapes = MailShapes::load(at.alloc, dumps, at.index, self.pid)?;
+        Ok(shapes)
+    }
+
+    fn put<K: Sink>(&self, _at: &Opened<'_>, shapes: &MailShapes, out: &mut K) -> Result<u8, Stop> {
+        put_shapes(out, shapes, u64::from(self.count))?;
+        Ok(DONE)
+    }
+}
+
+/// Runs the command, and returns its status.
+pub fn run_shapes<D: Dumps, K: Sink>(
+    dump: &Unopened<'_>,
+    pid: &[u8],
+    count: u32,
+    dumps: &mut D,
+    out: &mut K,
+) -> Result<u8, Stop>
+    ensures { Runs (question dump.now.file.now (shapes_row pid.now count)) dump.now.limits.now
+        (D.state dumps.old) (D.state dumps.new) (K.state out.old) (K.state out.new) result }
+{
+    run_report(dump, &Shapes { pid, count }, dumps, out)
+}

@@ -1,0 +1,3 @@
+mod Audits
+mod Overviews
+mod TriageLoads

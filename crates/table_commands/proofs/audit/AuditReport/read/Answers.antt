@@ -1,0 +1,8 @@
+use Rattle.audit_text.specs.Findings.{audit_report}
+use Rattle.table_commands.proofs.Audits.{ReadsFor-audit}
+use Rattle.table_commands.proofs.audit.AuditReport.read.Goals as goal
+
+pub returns-clause-reads : goal.returns-clause-reads
+returns-clause-reads g c =
+    let read = c.load.ensures in
+    rw c.or_stop.ensures (ReadsFor-audit c.args.self.now.limit c.args.self.now.full audit_report _ _ g.D.Dumps.state _ _ _ read.loads read.bodies)

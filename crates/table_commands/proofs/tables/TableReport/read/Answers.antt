@@ -1,0 +1,9 @@
+use Rattle.std.proofs.Common.{refl}
+use Rattle.dump_questions.proofs.Reading.{alone, ReadsFor-whole}
+use Rattle.table_commands.specs.Rows.{table_row}
+use Rattle.table_commands.proofs.tables.TableReport.read.Goals as goal
+
+pub returns-clause-reads : goal.returns-clause-reads
+returns-clause-reads g c =
+    let kind = c.args.self.now.kind in
+    rw c.or_stop.ensures (ReadsFor-whole (table_row kind) _ _ (alone _ _) g.D.Dumps.state _ _ (λ _. refl) (λ loaded. loaded) _ c.load.ensures.loads c.load.ensures.table)

@@ -1,0 +1,30 @@
+//! Questions to a dump that load bodies alone, and the commands without a file.
+#![tactic(auto)]
+
+mod audit;
+mod audit_json;
+mod field;
+mod index;
+mod info;
+mod links;
+mod make;
+mod memory;
+mod proc;
+mod procs;
+mod tables;
+mod triage;
+mod trial;
+
+pub use audit::run_audit;
+pub use audit_json::run_audit_json;
+pub use field::run_field;
+pub use index::run_index;
+pub use info::run_info;
+pub use links::run_links;
+pub use make::run_make;
+pub use memory::run_memory;
+pub use proc::run_proc;
+pub use procs::run_procs;
+pub use tables::run_table;
+pub use triage::run_triage;
+pub use trial::run_trial;

@@ -1,0 +1,160 @@
+// `triage`: what to read first of a dump.
+ghost use Rattle.std.specs.Prelude.{◌≡◌, ◌≤◌, length, None, IfOk};
+ghost use Rattle.dump_sections.specs.Index.{sections_in, IsBuiltOver};
+ghost use Rattle.dump_sections.specs.Loading.{large_fault, LoadsBodies};
+ghost use Rattle.table_commands.specs.Rows.{triage_row, triage_sections};
+ghost use Rattle.table_commands.specs.Loads.{seen_triage, AreFound, Fits, HoldsBodies, ReadsBodies};
+ghost use Rattle.dump_questions.specs.Runs.{Runs};
+ghost use Rattle.dump_questions.specs.Tasks.{question};
+
+use dump_io::{Dumps, Sink};
+use dump_questions::status::DONE;
+use dump_questions::{Body, Opened, Report, Stop, Unopened, or_stop, read_found, run_report};
+use dump_sections::{BodyFault, LargeSection, large_body};
+use dump_triage::Triage as Found;
+use glance_text::put_triage;
+use process_table::{ProcSections, Procs};
+use std::alloc::AllocError;
+use table_sections::{Rows, TableKind, TableSections};
+
+#[derive(Clone, Copy)]
+pub(crate) struct Triage {
+    pub count: u32,
+}
+
+/// The sections whose bodies are loaded after the first one.
+#[derive(Drop)]
+pub struct Places {
+    memory: Option<usize>,
+    procs: ProcSections,
+    tables: TableSections,
+}
+
+/// The bodies of the first section and of the first one on memory, the processes and the ETS tables.
+#[derive(Drop)]
+pub struct Loaded {
+    first: Body,
+    memory: Body,
+    procs: Procs,
+    tables: Rows,
+}
+
+fn find_places(at: &Opened<'_>) -> Result<Places, AllocError>
+    ensures { IfOk result (AreFound at.now.index.now) }
+{
+    let memory = at.index.first_tag(b"memory");
+    let procs = ProcSections::find(at.alloc, at.index)?;
+    let tables = TableSections::find(at.alloc, at.index, TableKind::Ets)?;
+    Ok(Places {
+        memory,
+        procs,
+        tables,
+    })
+}
+
+// The first of the sections whose body has more bytes than the limit.
+fn large_section(at: &Opened<'_>, places: &Places) -> Option<LargeSection>
+    requires some { 1 ≤ length at.now.index.now.headers }
+    requires places { AreFound at.now.index.now places.now }
+    ensures { let sections = triage_sections (sections_in at.now.index.now) in
+        result ≡ large_fault at.now.limits.now.section sections }
+{
+    let first = large_body(at.index, Some(0), at.limits);
+    let memory = large_body(at.index, places.memory, at.limits);
+    let procs = places.procs.large(at.index, at.limits);
+    let tables = places.tables.large(at.index, at.limits);
+    first.or(memory).or(procs).or(tables)
+}
+
+// Reads the bodies, none of which is too large, one after another.
+fn read_bodies<D: Dumps>(
+    at: &Opened<'_>,
+    dumps: &mut D,
+    places: Places,
+) -> Result<Loaded, BodyFault>
+    requires over { IsBuiltOver (D.state dumps.old).now at.now.index.now }
+    requires some { 1 ≤ length at.now.index.now.headers }
+    requires places { AreFound at.now.index.now places }
+    requires small { let sections = triage_sections (sections_in at.now.index.now) in
+        large_fault at.now.limits.now.section sections ≡ None }
+    ensures { ReadsBodies at.now.index.now (D.state dumps.old) (D.state dumps.new) result }
+{
+    let first = read_found(at, dumps, Some(0))?;
+    let memory = read_found(at, dumps, places.memory)?;
+    let procs = Procs::read(at.alloc, dumps, at.index, places.procs, at.limits)?;
+    let tables = Rows::read(at.alloc, dumps, at.index, places.tables, at.limits)?;
+    Ok(Loaded {
+        first,
+        memory,
+        procs,
+        tables,
+    })
+}
+
+// Loads the bodies: all are judged before one is read.
+fn load_bodies<D: Dumps>(
+    at: &Opened<'_>,
+    dumps: &mut D,
+    places: Places,
+) -> Result<Loaded, BodyFault>
+    requires over { IsBuiltOver (D.state dumps.old).now at.now.index.now }
+    requires some { 1 ≤ length at.now.index.now.headers }
+    requires places { AreFound at.now.index.now places }
+    ensures loads { let sections = triage_sections (sections_in at.now.index.now) in
+        LoadsBodies D.state sections at.now.limits.now.section dumps.old dumps.new result }
+    ensures bodies { IfOk result (HoldsBodies at.now.index.now (D.state dumps.old).now) }
+    ensures fits { IfOk result (Fits at.now.index.now) }
+{
+    if let Some(large) = large_section(at, &places) {
+        return Err(BodyFault::from(large));
+    }
+    read_bodies(at, dumps, places)
+}
+
+impl Report for Triage {
+    type Loaded = Loaded;
+
+    ghost means = { λ c. triage_row c.count };
+
+    ghost seen = { λ _ index loaded. seen_triage index loaded };
+
+    ghost fits = { λ _ index loaded. Fits index loaded };
+
+    fn read<D: Dumps>(&self, at: &Opened<'_>, dumps: &mut D) -> Result<Loaded, Stop> {
+        let places = find_places(at)?;
+        or_stop(load_bodies(at, dumps, places))
+    }
+
+    fn put<K: Sink>(&self, at: &Opened<'_>, loaded: &Loaded, out: &mut K) -> Result<u8, Stop> {
+        let Loaded {
+            first,
+            memory,
+            procs,
+            tables,
+        } = loaded;
+        let found = Found::of(at.alloc, at.index, procs, tables, u64::from(self.count))?;
+        put_triage(
+            out,
+            at.index,
+            first.bytes.as_slice(),
+            memory.bytes.as_slice(),
+            procs,
+            tables,
+            &found,
+        )?;
+        Ok(DONE)
+    }
+}
+
+/// Runs the command, and returns its status.
+pub fn run_triage<D: Dumps, K: Sink>(
+    dump: &Unopened<'_>,
+    count: u32,
+    dumps: &mut D,
+    out: &mut K,
+) -> Result<u8, Stop>
+    ensures { Runs (question dump.now.file.now (triage_row count)) dump.now.limits.now
+        (D.state dumps.old) (D.state dumps.new) (K.state out.old) (K.state out.new) result }
+{
+    run_report(dump, &Triage { count }, dumps, out)
+}
