@@ -76,7 +76,7 @@ fn put_cell(slots: &mut [Slot], place: usize, number: Option<u32>)
     }
 }
 
-// Both lists are sorted, so that one pass over them finds the cell of each reference.
+// Finds the cell of each reference in one pass over both lists, since both are sorted.
 fn resolve_each(slots: &mut [Slot], references: &Ranks, ranks: &Ranks)
     requires references { AreReferences slots.old references.now }
     requires ascend { IsNonDecreasingBy (λ pair. pair.0) references.now }
@@ -184,7 +184,7 @@ fn resolve_near(slots: &mut [Slot], ranks: &Ranks, cells: &[CellRecord])
     }
 }
 
-// The others are sorted.
+// Resolves all references: first those that are easily told, and then the others, which are sorted for it.
 fn resolve(
     alloc: Global,
     slots: &mut [Slot],

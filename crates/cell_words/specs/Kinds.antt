@@ -29,7 +29,7 @@ payload_words (Ext size chars) = div_ceil size 8
 payload_words (HeapBin size chars) = div_ceil size 8
 payload_words form = 0
 
--- the same of a cell
+-- the words of the payload of a cell, by its form; a malformed cell has none
 abbrev pub payload_in : Option HeapForm → ℕ
 payload_in None = 0
 payload_in (Some form) = payload_words form

@@ -14,7 +14,7 @@ abbrev pub held_too : ℕ → Holder → Holder
 held_too part Nobody = Part part
 held_too part holder = Several
 
--- the same, if it comes there
+-- who holds a cell, if this is so, once a part has come to it, and otherwise as before
 abbrev pub held_if : Bool → ℕ → Holder → Holder
 held_if true part holder = held_too part holder
 held_if false part holder = holder

@@ -106,7 +106,7 @@ module _ (cells : List Cell) (m : ℕ) (slots : List Slot) (k : ℕ) (targets : 
       let here : k ≡ 0 = omega (arith, one, within) in
       ap (λ ps. slice_get ps k) is ∙ ap (slice_get (place ∷ [])) here
 
-  -- the only other place is that of a sub binary
+  -- a place for which there is no slot is that of a sub binary, and leads to the heap binary at its address
   pub lead-whole : (whole : Option ℕ) → slice_get slots k ≡ None → k < length (places_at (graph_of cells) m)
       → ((address offset size : ℕ) → form ≡ Some (SubBin address offset size) → whole ≡ bin_at cells address) → slice_get (places_at (graph_of cells) m) k ≡ Some whole
   lead-whole whole none within is =

@@ -8,7 +8,7 @@ abbrev pub IsPointOf : List ℕ → ℕ → List ℕ → ℕ → Type 0
 IsPointOf addresses address order place =
     IsPartitionPoint (λ n. nat_lt (address_in addresses n) address ≡ true) (λ n. nat_lt (address_in addresses n) address ≡ false) order place
 
--- there is such a number, and it has this address
+-- there is a cell with this number, and it has this address
 pub record StandsAt (addresses : List ℕ) (number address : ℕ) : Type 0 where
   pub within : number < length addresses
   pub address_is : address_in addresses number ≡ address

@@ -36,7 +36,7 @@ HasUpto now upto = IsOpen now × (upto ≤ size_of now)
 abbrev pub piece_size : List ℕ → ℕ → ℕ → ℕ
 piece_size buffer from upto = min (length buffer) (upto - from)
 
--- that piece of the bytes of a dump
+-- the first piece of the bytes of a dump between two offsets
 abbrev pub first_piece : List ℕ → ℕ → ℕ → List ℕ → List ℕ
 first_piece buffer from upto dump = between from (from + piece_size buffer from upto) dump
 

@@ -26,7 +26,7 @@ tallied tallies text = get_by (λ key. slice_cmp nat_cmp text key.now) tallies
 pub record AreTallied (tallies : BTreeMap (Bor (List ℕ)) Tally) (items : List Item) : Type 0 where
   pub each : (text : List ℕ) → tallied tallies text ≡ tally (members text items)
 
--- the same, without the texts of the first items
+-- the tree has for each text the tally of the items that have it, but none for the texts of the first items
 pub record AreLeft (tallies : BTreeMap (Bor (List ℕ)) Tally) (items : List Item) (first : ℕ) : Type 0 where
   pub each : (text : List ℕ)
       → tallied tallies text ≡ (if list_any (has_text text) (take first items) then None else tally (members text items))
