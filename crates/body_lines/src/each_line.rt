@@ -24,19 +24,19 @@ pub fn whole_text(front: &[u8], size: u64) -> Option<&[u8]>
 
 /// Hears the lines of a body one by one, in order, until it stops.
 pub trait EachLine {
-    /// The answer with which it stops.
+    /// The answer with which the sink stops.
     type Stop;
 
-    /// How many bytes of a line it needs, counted from the line's beginning.
+    /// How many bytes of a line the sink needs, counted from the line's beginning.
     ghost kept: { ℕ };
 
-    /// Whether it may hear lines.
+    /// Whether the sink may hear lines.
     ghost ready: { Self → Type 0 };
 
-    /// Which lines it heard between two states.
+    /// Which lines the sink heard between two states.
     ghost hears: { Self → Self → List CutLine → Type 0 };
 
-    /// Which lines it heard between two states before it stopped, and with which answer.
+    /// Which lines the sink heard between two states before it stopped, and with which answer.
     ghost stops: { Self → Self → List CutLine → Self.Stop → Type 0 };
 
     /// How many bytes of a line it needs.

@@ -15,9 +15,9 @@ const BLOCK: usize = 64;
 // How bytes are copied.
 #[derive(Clone, Copy)]
 pub(crate) enum Stretch {
-    // As they are.
+    // Bytes are copied as they are.
     Plain,
-    // Made blank up to the end of the line.
+    // Bytes are made blank up to the end of the line.
     Payload(Enc),
 }
 

@@ -40,7 +40,7 @@ abbrev pub is_held : Holder → Bool
 is_held Nobody = false
 is_held holder = true
 
--- whether several hold it
+-- whether several parts hold a cell with this holder
 abbrev pub is_several : Holder → Bool
 is_several Several = true
 is_several holder = false

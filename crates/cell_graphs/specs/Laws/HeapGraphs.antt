@@ -28,7 +28,7 @@ places-of cells m = places-in cells cells m
 pub cells-of : (cells : List Cell) → length (graph_of cells) ≡ length cells
 cells-of cells = length-map cells (λ cell. places_of cells cell.form)
 
--- ---- they lead to cells of the heap
+-- ---- the places of a cell lead to cells of the heap
 
 found-within : (cells : List Cell) (address n : ℕ) (o : Option ℕ) → number_at cells address ≡ o → cell_in (target_at address o) ≡ Some n → n < length cells
 found-within cells address n None at is = absurd (none-some n is)
@@ -63,7 +63,7 @@ heap-within cells m n (k, is) =
     let inside : n < length cells = form-within cells (form_at cells m) k n (ap (λ places. slice_get places k) (sym (places-of cells m)) ∙ is) in
     omega (arith, inside, cells-of cells)
 
--- ---- they are what the slots say
+-- ---- the places of a cell are what its slots say
 
 no-past : (places : List (Option ℕ)) (k : ℕ) → k < length places → slice_get places k ≡ None → ⊥
 no-past [] k within none = omega (arith, within)

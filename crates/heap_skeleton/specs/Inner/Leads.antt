@@ -28,7 +28,7 @@ mark lead.Nowhere = nowhere
 mark (lead.Cell address) = 0
 mark (lead.Binary address) = 1
 
--- the address, if it has one
+-- the address of an element's lead, if it has one
 abbrev pub reference : Lead → List ℕ
 reference lead.Nowhere = []
 reference (lead.Cell address) = address ∷ []

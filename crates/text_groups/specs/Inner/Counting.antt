@@ -14,7 +14,7 @@ abbrev pub tally : List Item → Option Tally
 tally [] = None
 tally (item ∷ items) = Some (record { count = length (item ∷ items); weight = capped (sum_by (λ i. i.weight) (item ∷ items)) })
 
--- a tally, or that of none
+-- a tally, or the tally of no items
 abbrev pub tally_or_none : Option Tally → Tally
 tally_or_none found = unwrap_or found (record { count = 0; weight = 0 })
 
