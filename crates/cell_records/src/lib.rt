@@ -18,8 +18,10 @@ mod firsts;
 mod keeping;
 mod located;
 mod order;
+mod near;
 mod ranks;
 mod resolving;
+mod search;
 mod settling;
 
 pub use arena::{Arena, slots_of};
@@ -27,5 +29,7 @@ pub use cells::{CellIx, CellRecord, Kind, Slot, Span, Why};
 pub use firsts::{are_apart, firsts_of};
 pub use located::Located;
 pub use order::{number_near, number_of, ranks_of};
+pub use near::Near;
 pub use ranks::Ranks;
+pub use search::Search;
 pub use settling::{Settled, settle};
