@@ -159,6 +159,10 @@ found-same address (place ∷ places) =
       | false ↦ found-same address places
     ]
 
-pub table-is : (base : ℕ) (body : List ℕ) (lines table : List (ℕ × ℕ)) → lines ≡ placed_lines base body → ((address : ℕ) → place_by nat_cmp address table ≡ place_by nat_cmp address lines)
-    → IsTableOf base body table
-table-is base body lines table is sorted = λ address. sorted address ∙ ap (place_by nat_cmp address) is ∙ found-same address (placed_lines base body)
+pub table-is : (base : ℕ) (body : List ℕ) (lines places : List (ℕ × ℕ)) (count : ℕ) → lines ≡ placed_lines base body
+    → ((address : ℕ) → place_by nat_cmp address places ≡ place_by nat_cmp address lines) → count ≡ length lines
+    → IsTableOf base body (record { places = places; count = count })
+table-is base body lines places count is sorted counted = record {
+  places = λ address. sorted address ∙ ap (place_by nat_cmp address) is ∙ found-same address (placed_lines base body);
+  count = counted ∙ ap length is;
+}

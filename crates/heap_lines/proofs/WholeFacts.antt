@@ -1,13 +1,13 @@
 -- The heap lines of two bodies: which addresses they have, and which line is read for one.
-use Rattle.std.proofs.Common.{◌≡◌, ℕ, ◌+◌, ◌-◌, ◌<◌, ◌≤◌, ◌||◌, List, ◌++◌, take, drop, min, Option, None, Some, is_some, refl, sym, ◌∙◌, ap, ap₂, subst, drop-drop, length-take, arith}
+use Rattle.std.proofs.Common.{◌≡◌, ℕ, ◌+◌, ◌-◌, ◌*◌, ◌<◌, ◌≤◌, ◌||◌, List, ◌++◌, take, drop, min, Option, None, Some, is_some, refl, sym, ◌∙◌, ap, ap₂, subst, drop-drop, length, length-append, length-take, arith}
 use Rattle.std.proofs.lemmas.List.{drop-take}
 use Rattle.std.specs.List.{between}
 use Rattle.std.specs.Option.{option_and_then, option_or, option_to_list}
 use Rattle.std.specs.Ordering.{nat_cmp}
-use Rattle.dump_io.specs.Dumps.{Now, closed, told, sized, size_of, IsOpen, IfTold}
+use Rattle.dump_io.specs.Dumps.{Now, size_of, IfTold}
 use Rattle.dump_io.specs.Laws.Options.{none-where, or-some, or-second}
 use Rattle.dump_io.specs.Lines.{text_of}
-use Rattle.dump_sections.specs.Bodies.{body_in}
+use Rattle.dump_sections.specs.Bodies.{body_in, body_size}
 use Rattle.dump_sections.specs.Laws.{built-size}
 use Rattle.dump_sections.specs.Index.{Contents, sections_in, index_of, IsBuiltOver}
 use Rattle.dump_sections.specs.Laws.{index-is}
@@ -22,9 +22,9 @@ use Rattle.heap_parts.specs.Firsts.{first_with, IsLawful, IsPushed}
 use Rattle.heap_parts.specs.Places.{first_raw, text_cell, ended_text, ReadsTexts}
 use Rattle.heap_parts.specs.Laws.Firsts.{has-lines}
 use Rattle.heap_parts.specs.Laws.Lines.{cells-pushed, first-free}
-use Rattle.heap_parts.specs.Laws.Places.{first-append, first-placed, placed-known}
+use Rattle.heap_parts.specs.Laws.Places.{first-append, first-placed, placed-count, placed-known}
 use Rattle.heap_lines.specs.Inner.Bodies.{span_in, span_of, AreBodyLines}
-use Rattle.heap_lines.specs.Wholes.{two_cells, cells_in, is_known, bytes_of, IsTableIn, ServesLines, HasLines}
+use Rattle.heap_lines.specs.Wholes.{two_cells, cells_in, is_known, text_size, bytes_of, IsTableIn, ServesLines, HasLines}
 use Rattle.heap_lines.specs.declared.whole.BodyLines.{BodyLines}
 use Rattle.heap_lines.specs.declared.whole.HeapLines.{HeapLines}
 
@@ -50,15 +50,15 @@ reads-body dump from end = record {
 
 -- an address is in the table exactly if a line has it
 known-body : (enc : Enc) (dump : List ℕ) (lines : BodyLines) (a : ℕ) → IsTableIn dump lines
-    → is_some (place_by nat_cmp a lines.table) ≡ is_some (first_with (line_cells enc (bytes_of lines dump)) a)
-known-body enc dump lines a table = ap is_some (table a) ∙ placed-known enc lines.from (bytes_of lines dump) a
+    → is_some (place_by nat_cmp a lines.table.places) ≡ is_some (first_with (line_cells enc (bytes_of lines dump)) a)
+known-body enc dump lines a table = ap is_some (table.places a) ∙ placed-known enc lines.from (bytes_of lines dump) a
 
 -- the line at the place that the table has is the first with the address
-placed-body : (enc : Enc) (dump : List ℕ) (lines : BodyLines) (a place : ℕ) → IsTableIn dump lines → place_by nat_cmp a lines.table ≡ Some place
+placed-body : (enc : Enc) (dump : List ℕ) (lines : BodyLines) (a place : ℕ) → IsTableIn dump lines → place_by nat_cmp a lines.table.places ≡ Some place
     → first_with (line_cells enc (bytes_of lines dump)) a ≡ text_cell enc (line_upto dump lines.end place)
 placed-body enc dump lines a place table is =
     first-placed enc lines.from (bytes_of lines dump) (line_upto dump lines.end) a (reads-body dump lines.from lines.end)
-    ∙ ap (option_and_then (λ p. text_cell enc (line_upto dump lines.end p))) (sym (table a) ∙ is)
+    ∙ ap (option_and_then (λ p. text_cell enc (line_upto dump lines.end p))) (sym (table.places a) ∙ is)
 
 -- ---- the lines of both
 
@@ -89,7 +89,7 @@ spanned : (lines : HeapLines) (dump : List ℕ) (a : ℕ) → IsTableIn dump lin
     → first_with (two_cells lines.enc (bytes_of lines.heap dump) (bytes_of lines.literals dump)) a
     ≡ text_cell lines.enc (text_of (first_raw (between (span_of lines a).0 (span_of lines a).1 dump)))
 spanned lines dump a in_heap in_literals =
-    first-append heap literals a ∙ by (place_by nat_cmp a lines.heap.table) refl (place_by nat_cmp a lines.literals.table) refl
+    first-append heap literals a ∙ by (place_by nat_cmp a lines.heap.table.places) refl (place_by nat_cmp a lines.literals.table.places) refl
   where
     heap : List Cell
     heap = line_cells lines.enc (bytes_of lines.heap dump)
@@ -100,7 +100,7 @@ spanned lines dump a in_heap in_literals =
     read : ℕ × ℕ → Option Cell
     read span = text_cell lines.enc (text_of (first_raw (between span.0 span.1 dump)))
 
-    by : (one : Option ℕ) → place_by nat_cmp a lines.heap.table ≡ one → (other : Option ℕ) → place_by nat_cmp a lines.literals.table ≡ other
+    by : (one : Option ℕ) → place_by nat_cmp a lines.heap.table.places ≡ one → (other : Option ℕ) → place_by nat_cmp a lines.literals.table.places ≡ other
         → option_or (first_with heap a) (first_with literals a) ≡ read (span_in one lines.heap.end other lines.literals.end)
     by (Some place) is other at =
         or-some (first_with heap a) (first_with literals a) (sym (known-body lines.enc dump lines.heap a in_heap) ∙ ap is_some is)
@@ -127,9 +127,10 @@ line-pushed lines now all a span old new has whole is pushed =
 
 -- the lines of a section that may be missing
 pub body-read : (now : Now) (found : Option Section) (lines : BodyLines) (from end : ℕ) → lines.from ≡ from → lines.end ≡ end → end ≤ size_of now
-    → ((dump : List ℕ) → between from end dump ≡ body_in dump found) → IfTold now (λ dump. IsTableIn dump lines) → AreBodyLines now found lines
-body-read now found lines from end is_from is_end inside body table = record {
+    → end - from ≡ body_size found → ((dump : List ℕ) → between from end dump ≡ body_in dump found) → IfTold now (λ dump. IsTableIn dump lines) → AreBodyLines now found lines
+body-read now found lines from end is_from is_end inside size body table = record {
   within = omega (arith, is_end, inside);
+  size = omega (arith, is_from, is_end, size);
   body = λ dump. ap₂ (λ i j. between i j dump) is_from is_end ∙ body dump;
   table = table;
 }
@@ -158,3 +159,21 @@ lines-loaded now later index pid heap literals lines over same is_heap is_litera
           ∙ ap (λ e. two_cells e (body_in dump (heap_section pid (sections_in index))) (body_in dump (literals_section (sections_in index)))) enc
           ∙ ap (λ i. two_cells (enc_of i.version) (body_in dump (heap_section pid (sections_in i))) (body_in dump (literals_section (sections_in i)))) built);
     }
+
+-- two bytes for each line, and the two bodies
+pub lines-sized : (now other : Now) (heap literals : Option Section) (lines : HeapLines) → AreBodyLines now heap lines.heap → AreBodyLines other literals lines.literals
+    → (all : List Cell) → HasLines lines now all → text_size lines ≤ (body_size heap + body_size literals) + 2 * length all
+lines-sized now other heap literals lines one more all has =
+    let own = line_cells lines.enc (bytes_of lines.heap has.dump) in
+    let shared = line_cells lines.enc (bytes_of lines.literals has.dump) in
+    let count : length all ≡ length own + length shared = ap length has.cells ∙ length-append own shared in
+    omega (
+      arith,
+      one.size,
+      more.size,
+      count,
+      has.heap.count,
+      placed-count lines.enc lines.heap.from (bytes_of lines.heap has.dump),
+      has.literals.count,
+      placed-count lines.enc lines.literals.from (bytes_of lines.literals has.dump),
+    )

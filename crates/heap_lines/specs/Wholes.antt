@@ -1,5 +1,5 @@
 -- The heap lines of a process and of the literals, which stay in the file.
-use Rattle.std.specs.Prelude.{◌≡◌, ◌≤◌, ◌||◌, ℕ, Bool, List, ◌++◌, is_some}
+use Rattle.std.specs.Prelude.{◌≡◌, ◌+◌, ◌-◌, ◌*◌, ◌≤◌, ◌||◌, ℕ, Bool, List, ◌++◌, is_some}
 use Rattle.std.specs.List.{between}
 use Rattle.std.specs.Ordering.{nat_cmp}
 use Rattle.dump_io.specs.Dumps.{Now, told, size_of, IsOpen}
@@ -23,7 +23,12 @@ cells_in pid bytes = two_cells (payloads_of bytes) (heap_body pid bytes) (litera
 -- whether one of the tables has the address
 abbrev pub is_known : HeapLines → ℕ → Bool
 is_known lines address =
-    is_some (place_by nat_cmp address lines.heap.table) || is_some (place_by nat_cmp address lines.literals.table)
+    is_some (place_by nat_cmp address lines.heap.table.places) || is_some (place_by nat_cmp address lines.literals.table.places)
+
+-- how many bytes the texts of all heap lines have, each with two for an end of line, at most
+abbrev pub text_size : HeapLines → ℕ
+text_size lines =
+    ((lines.heap.end - lines.heap.from) + (lines.literals.end - lines.literals.from)) + 2 * (lines.heap.table.count + lines.literals.table.count)
 
 -- the bodies end within what is open
 pub record ServesLines (lines : HeapLines) (now : Now) : Type 0 where

@@ -43,19 +43,20 @@ fn hear_lines<D: Dumps>(
     }
 }
 
-/// Where the first heap line with each address begins in a body. Contracts see the addresses
-/// of its heap lines with the offsets at which these begin, in bytes of the file.
+/// Where the first heap line with each address begins in a body. Contracts see the addresses of its heap
+/// lines with the offsets at which these begin, in bytes of the file, and how many heap lines there are.
 #[derive(Drop)]
 pub struct LineTable {
     places: FirstPlaces<u64>,
+    count: usize,
 }
 
 impl Model for LineTable {
-    ghost use Rattle.std.specs.Prelude.{ℕ, List};
+    ghost use Rattle.heap_lines.specs.Tables.{Table};
 
-    ghost Value = { List (ℕ × ℕ) };
+    ghost Value = { Table };
 
-    ghost view = { λ table. table.places };
+    ghost view = { λ table. record { places = table.places; count = table.count } };
 }
 
 impl LineTable {
@@ -79,15 +80,23 @@ impl LineTable {
             IsTableOf from (between from upto dump) table)) }
     {
         let lines = hear_lines(alloc, dumps, from, upto)?;
+        let count = lines.len();
         let places = FirstPlaces::of(lines)?;
-        Ok(LineTable { places })
+        Ok(LineTable { places, count })
     }
 
     /// The offset at which the first heap line with the address begins. Returns `None` exactly when there is none.
     pub fn find(&self, address: u64) -> Option<u64>
-        ensures { result ≡ place_by nat_cmp address self.now }
+        ensures { result ≡ place_by nat_cmp address self.now.places }
     {
         let place = self.places.get(address)?;
         Some(place as u64)
+    }
+
+    /// How many heap lines the body has, including those with the address of an earlier one.
+    pub fn count(&self) -> usize
+        ensures { result ≡ self.now.count }
+    {
+        self.count
     }
 }

@@ -1,12 +1,13 @@
 // The heap lines of a process and of the literals, which stay in the file.
-ghost use Rattle.std.specs.Prelude.{◌≡◌, ◌+◌, ◌≤◌, min, IfErr, IfOk};
+ghost use Rattle.std.specs.Prelude.{◌≡◌, ◌+◌, ◌-◌, ◌*◌, ◌≤◌, List, length, min, IfErr, IfOk};
 ghost use Rattle.dump_io.specs.Dumps.{Now, size_of, ReadsAtMost, IfTold};
 ghost use Rattle.dump_io.specs.Faults.{IsReadCauseOf};
 ghost use Rattle.dump_sections.specs.Bodies.{body_size, section_in, IsPlaceIn};
 ghost use Rattle.dump_sections.specs.Index.{IsBuiltOver, sections_in};
+ghost use Rattle.heap_cells.specs.Cells.{Cell};
 ghost use Rattle.heap_cells.specs.Loading.{enc_of, heap_section, literals_section};
 ghost use Rattle.heap_parts.specs.Firsts.{IsLawful};
-ghost use Rattle.heap_lines.specs.Wholes.{cells_in, is_known, HasLines, ServesLines};
+ghost use Rattle.heap_lines.specs.Wholes.{cells_in, is_known, text_size, HasLines, ServesLines};
 ghost use Rattle.heap_lines.specs.Inner.Bodies.{AreBodyLines, span_of};
 
 use crate::line_table::LineTable;
@@ -62,6 +63,13 @@ fn within(place: u64, end: u64) -> u64
     if place < end { place } else { end }
 }
 
+// How many bytes a body has.
+fn body_len(lines: &BodyLines) -> u64
+    ensures { result ≡ lines.now.end - lines.now.from }
+{
+    lines.end.saturating_sub(lines.from)
+}
+
 // Where the first line with an address begins, and where its body ends. If no line has it, both are the same.
 fn span(lines: &HeapLines, address: u64) -> (u64, u64)
     ensures span { result ≡ span_of lines.now address }
@@ -86,7 +94,8 @@ impl HeapLines {
     /// If the device tells the dump, these are the lines of which `heap_map` has the cells, and an address is
     /// known exactly if that has a cell there. `Read` is returned only if the device's count of faults rose,
     /// and `Memory` may come from any allocation. Whatever it returns, at most as many bytes are read as the
-    /// two bodies have.
+    /// two bodies have. The texts of all lines, each with an end of line, have at most as many bytes as these
+    /// and two for each line.
     pub fn load<D: Dumps>(
         alloc: Global,
         dumps: &mut D,
@@ -102,6 +111,9 @@ impl HeapLines {
         ensures enc { IfOk result (λ lines. lines.enc ≡ enc_of index.now.version) }
         ensures lines { IfOk result (λ lines. IfTold (D.state dumps.old).now (λ dump.
             HasLines lines (D.state dumps.old).now (cells_in pid.now dump))) }
+        ensures size { IfOk result (λ lines. (all : List Cell) → HasLines lines (D.state dumps.old).now all
+            → text_size lines ≤ (body_size (heap_section pid.now (sections_in index.now))
+            + body_size (literals_section (sections_in index.now))) + 2 * length all) }
         ensures known { IfOk result (λ lines. IfTold (D.state dumps.old).now (λ dump.
             IsLawful (is_known lines) (cells_in pid.now dump))) }
     {
@@ -132,10 +144,20 @@ impl WholeHeap for HeapLines {
 
     ghost written = { λ lines. lines.enc };
 
+    ghost size = { text_size };
+
     fn law(&self) {}
 
     fn enc(&self) -> Enc {
         self.enc
+    }
+
+    fn size_within(&self, most: u32) -> u32 {
+        let bodies = body_len(&self.heap).saturating_add(body_len(&self.literals));
+        let heap = self.heap.table.count() as u64;
+        let count = heap.saturating_add(self.literals.table.count() as u64);
+        let size = bodies.saturating_add(count).saturating_add(count);
+        size.min(u64::from(most)) as u32
     }
 
     fn push_line<D: Dumps>(

@@ -6,13 +6,15 @@
 //! is the first with its address.
 #![tactic(auto)]
 
-mod gathering;
-mod joining;
+mod gathered;
 mod laws;
 mod lines;
+mod part;
 mod reading;
+mod rules;
+mod search;
 
-pub use joining::load_part;
 pub use laws::one_line_is_one_cell;
 pub use lines::WholeHeap;
+pub use part::load_part;
 pub use reading::push_text;

@@ -1,5 +1,5 @@
 // The lines of a heap that isn't loaded.
-ghost use Rattle.std.specs.Prelude.{◌≡◌, List, ◌-◌, ◌*◌, ◌<◌, length, OnOk, IfErr};
+ghost use Rattle.std.specs.Prelude.{◌≡◌, ℕ, List, ◌-◌, ◌*◌, ◌<◌, length, min, OnOk, IfErr};
 ghost use Rattle.dump_io.specs.Dumps.{Now, ReadsAtMost};
 ghost use Rattle.dump_io.specs.Faults.{IsReadCauseOf};
 ghost use Rattle.binary_payloads.specs.declared.enc.Enc.{Enc};
@@ -21,6 +21,9 @@ pub trait WholeHeap: Addresses {
     /// How the payloads are written.
     ghost written: { Self → Enc };
 
+    /// How many bytes the texts of all lines have, each with two for an end of line, at most.
+    ghost size: { Self → ℕ };
+
     /// States a law and does no work: an address is known exactly if one of the lines has it.
     fn law(&self)
         ensures { (now : Now) (all : List Cell)
@@ -28,6 +31,11 @@ pub trait WholeHeap: Addresses {
 
     fn enc(&self) -> Enc
         ensures { result ≡ written self.now };
+
+    /// How many bytes the texts of all lines have, each with two for an end of line, at most, or
+    /// this many if that is less.
+    fn size_within(&self, most: u32) -> u32
+        ensures { result ≡ min most (size self.now) };
 
     /// Reads the first line with an address, and appends its text and an end of line. Each
     /// line of the text that it appends to has its own. Returns `Memory` if there would be more

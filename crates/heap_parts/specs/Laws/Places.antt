@@ -1,5 +1,5 @@
 -- The first line with an address is the one that begins at its place.
-use Rattle.std.proofs.Common.{◌≡◌, ◌⊎◌, inl, inr, ℕ, ◌+◌, ◌<◌, ◌≤◌, ◌==◌, true, false, cond, List, [], ◌∷◌, ◌++◌, length, drop, map, Option, None, Some, is_some, slice_get, unwrap_or, find, refl, sym, ◌∙◌, ap, drop-drop}
+use Rattle.std.proofs.Common.{◌≡◌, ◌⊎◌, inl, inr, ℕ, ◌+◌, ◌<◌, ◌≤◌, ◌==◌, true, false, cond, List, [], ◌∷◌, ◌++◌, length, drop, map, Option, None, Some, is_some, slice_get, unwrap_or, find, refl, sym, ◌∙◌, ap, drop-drop, arith}
 use Rattle.std.specs.List.{filter_map, cons_option}
 use Rattle.std.specs.Option.{option_map, option_and_then, option_or}
 use Rattle.std.proofs.lemmas.Bool.{cases_lt}
@@ -116,3 +116,17 @@ some-same (Some place) (Some cell) both = refl
 pub placed-known : (enc : Enc) (base : ℕ) (body : List ℕ) (a : ℕ) → is_some (place_with (placed_lines base body) a) ≡ is_some (first_with (line_cells enc body) a)
 placed-known enc base body a =
     some-same (place_with (placed_lines base body) a) (first_with (line_cells enc body) a) (same-none enc a base 0 (raw_lines body))
+
+counts-from : (enc : Enc) (base at : ℕ) (raws : List (List ℕ)) → length (places_from base at raws) ≡ length (cells_from enc at raws)
+counts-from enc base at [] = refl
+counts-from enc base at (raw ∷ raws) = by (led_of (text_of raw)) (counts-from enc base (at + length raw) raws)
+  where
+    by : (led : Option (ℕ × List ℕ)) → length (places_from base (at + length raw) raws) ≡ length (cells_from enc (at + length raw) raws)
+        → length (cons_option (option_map (λ led. (led.0, base + at)) led) (places_from base (at + length raw) raws))
+        ≡ length (cons_option (option_map (spelled_cell enc) led) (cells_from enc (at + length raw) raws))
+    by None rest = rest
+    by (Some led) rest = omega (arith, rest)
+
+-- there are as many places as lines
+pub placed-count : (enc : Enc) (base : ℕ) (body : List ℕ) → length (placed_lines base body) ≡ length (line_cells enc body)
+placed-count enc base body = counts-from enc base 0 (raw_lines body)

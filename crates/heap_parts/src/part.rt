@@ -1,15 +1,16 @@
 // Loading a part of a heap that is enough for some roots.
-ghost use Rattle.std.specs.Prelude.{◌≡◌, [], List, ◌+◌, ◌*◌, ◌<◌, ◌≤◌, length, map, None, IfOk, IfErr, OnOk};
+ghost use Rattle.std.specs.Prelude.{◌≡◌, [], List, ◌+◌, ◌*◌, ◌<◌, ◌≤◌, length, map, min, false, IfOk, IfErr, OnOk};
 ghost use Rattle.dump_io.specs.Dumps.{Now, ReadsAtMost};
 ghost use Rattle.dump_io.specs.Faults.{IsReadCauseOf};
-ghost use Rattle.heap_cells.specs.Cells.{Cell};
+ghost use Rattle.heap_cells.specs.Cells.{Cell, line_cells};
 ghost use Rattle.term_forms.specs.Seen.{element};
 ghost use Rattle.heap_cells.specs.Loading.{IsHeapAnswerFor};
 ghost use Rattle.heap_parts.specs.Inner.Growing.{Grows, FindsNoGap};
-ghost use Rattle.heap_parts.specs.Firsts.{MayGrow, IsEnoughFor, IsLawful, ReadsLines};
+ghost use Rattle.heap_parts.specs.Firsts.{AreFirstLines, MayGrow, IsEnoughFor, IsLawful, ReadsLines};
 
-use crate::gathering::{Gathered, gather_gap, gather_root};
+use crate::gathered::{Bounds, Gathered};
 use crate::lines::WholeHeap;
+use crate::search::{Search, gather_root};
 use dump_io::{Dumps, Limits, ReadFault};
 use heap_cells::Heap;
 use std::alloc::{AllocError, Global};
@@ -17,40 +18,30 @@ use term_forms::Enc;
 use term_forms::shapes::Elem;
 use term_unfold::{PartWalker, part_is_enough};
 
-// A copy of these bytes.
-fn copy_of(alloc: Global, bytes: &[u8]) -> Result<Vec<u8>, AllocError>
-    ensures { IfOk result (λ copy. copy.items ≡ bytes.now) }
-{
-    let mut copy = Vec::new(alloc);
-    copy.extend_from_slice(bytes)?;
-    Ok(copy)
-}
-
 // The heap with these lines. One that is too dense counts as want of memory.
-fn heap_of(alloc: Global, lines: &[u8], enc: Enc, limits: &Limits) -> Result<Heap, ReadFault>
-    requires { length lines.now ≤ limits.now.section }
+fn heap_of(alloc: Global, lines: Vec<u8>, enc: Enc, limits: &Limits) -> Result<Heap, ReadFault>
+    requires { length lines.items ≤ limits.now.section }
     ensures heap { IfOk result (λ heap.
-        IsHeapAnswerFor enc lines.now [] limits.now.dense (Ok heap)) }
+        IsHeapAnswerFor enc lines.items [] limits.now.dense (Ok heap)) }
     ensures enc { IfOk result (λ heap. heap.enc ≡ enc) }
     ensures fault { IfErr result (λ fault. fault ≡ ReadFault.Memory) }
 {
-    let copy = copy_of(alloc, lines)?;
-    match Heap::of_lines(alloc, copy, enc, limits) {
+    match Heap::of_lines(alloc, lines, enc, limits) {
         Ok(heap) => Ok(heap),
         Err(_) => Err(ReadFault::Memory),
     }
 }
 
-// The first gap of the first root that has one.
-fn find_gap<W: WholeHeap>(
+// Whether a root asks for a cell that the heap lacks and the whole heap has.
+fn has_gap<W: WholeHeap>(
     alloc: Global,
     heap: &Heap,
     roots: &[Elem<'_>],
     budget: u32,
     whole: &W,
-) -> Result<Option<u64>, AllocError>
+) -> Result<bool, AllocError>
     requires { 0 < budget }
-    ensures none { IfOk result (λ gap. gap ≡ None
+    ensures none { IfOk result (λ gap. gap ≡ false
         → FindsNoGap (W.known whole.now) heap.now.cells roots.now budget) }
     ensures law { (now : Now) (all : List Cell)
         → W.has_lines whole.now now all → IsLawful (W.known whole.now) all }
@@ -58,33 +49,32 @@ fn find_gap<W: WholeHeap>(
     whole.law();
     let mut walker = PartWalker::new(alloc, heap)?;
     for root in roots {
-        let gap = walker.first_gap(*root, budget, whole);
-        if let Some(_) = gap {
-            return Ok(gap);
+        if walker.first_gap(*root, budget, whole).is_some() {
+            return Ok(true);
         }
     }
-    Ok(None)
+    Ok(false)
 }
 
-// Gathers what each root needs.
+// Gathers the lines that each root needs.
 fn gather_roots<W: WholeHeap, D: Dumps>(
     alloc: Global,
     whole: &W,
     dumps: &mut D,
     roots: &[Elem<'_>],
-    budget: u32,
-    limit: usize,
+    bounds: &Bounds,
     g: &mut Gathered,
 ) -> Result<(), ReadFault>
     requires over { W.serves whole.now (D.state dumps.old).now }
-    requires room { MayGrow limit g.old.lines.items }
-    ensures reads { ReadsLines (D.state dumps.old) (D.state dumps.new) limit g.old.lines.items }
+    requires room { MayGrow bounds.now.bytes g.old.lines.items }
+    ensures reads { ReadsLines (D.state dumps.old) (D.state dumps.new) bounds.now.bytes g.old.lines.items }
     ensures fault { IfErr result (IsReadCauseOf (D.state dumps.old) (D.state dumps.new)) }
-    ensures grows { OnOk result (Grows (W.has_lines whole.now) (W.written whole.now) limit
+    ensures grows { OnOk result (Grows (W.has_lines whole.now) (W.written whole.now) bounds.now.bytes
         (D.state dumps.old) (D.state dumps.new) g.old.lines.items g.new.lines.items) }
 {
+    let mut search = Search::new(alloc);
     for root in roots {
-        gather_root(alloc, whole, dumps, root, budget, limit, g)?;
+        gather_root(whole, dumps, root, bounds, g, &mut search)?;
     }
     Ok(())
 }
@@ -93,11 +83,11 @@ fn gather_roots<W: WholeHeap, D: Dumps>(
 /// answer to each of them over the part, with the previews of its cells, is the answer over the whole
 /// heap with the previews of that. The part has no more references to binaries than the whole heap.
 ///
-/// What a depth-first search from each root finds is gathered first. Mostly that is enough; walks over
-/// the part tell, and as long as one of them asks for a cell that only the whole heap has, what is below
-/// that cell is gathered too. Returns `Memory` if the lines that were gathered are more than the limits,
-/// and from any allocation, and `Read` only if the device's count of faults rose. Whatever it returns,
-/// it reads at most 16 times the limit on a section's body, and 64 bytes.
+/// A search from each root gathers the lines that its nodes need, each of which is read and parsed once, and a walk over
+/// the heap of these lines then makes sure that no node asks for a cell that only the whole heap has. Returns `Memory` if the
+/// lines are more than the limits, if the walk finds such a node, as it may if the file is changed meanwhile, and from any
+/// allocation, and `Read` only if the device's count of faults rose. Whatever it returns, it reads at most 16 times the
+/// limit on a section's body or what all lines of the whole heap take, if that is less, and 64 bytes.
 pub fn load_part<W: WholeHeap, D: Dumps>(
     alloc: Global,
     whole: &W,
@@ -109,7 +99,7 @@ pub fn load_part<W: WholeHeap, D: Dumps>(
     requires over { W.serves whole.now (D.state dumps.old).now }
     requires budget { 0 < budget }
     ensures reads { ReadsAtMost (D.state dumps.old) (D.state dumps.new)
-        (16 * (limits.now.section + 4)) }
+        (16 * (min limits.now.section (W.size whole.now) + 4)) }
     ensures fault { IfErr result (IsReadCauseOf (D.state dumps.old) (D.state dumps.new)) }
     ensures enough { IfOk result (λ heap. (all : List Cell)
         → W.has_lines whole.now (D.state dumps.old).now all
@@ -117,14 +107,17 @@ pub fn load_part<W: WholeHeap, D: Dumps>(
     ensures enc { IfOk result (λ heap. heap.enc ≡ W.written whole.now) }
 {
     part_is_enough();
-    let limit = limits.section() as usize;
+    let bounds = Bounds {
+        bytes: whole.size_within(limits.section()) as usize,
+        nodes: budget,
+        leads: limits.dense(),
+    };
     let mut g = Gathered::new(alloc);
-    gather_roots(alloc, whole, dumps, roots, budget, limit, &mut g)?;
-    loop {
-        let heap = heap_of(alloc, &g.lines, whole.enc(), limits)?;
-        let Some(addr) = find_gap(alloc, &heap, roots, budget, whole)? else {
-            return Ok(heap);
-        };
-        gather_gap(alloc, whole, dumps, addr, budget, limit, &mut g)?;
+    gather_roots(alloc, whole, dumps, roots, &bounds, &mut g)?;
+    let heap = heap_of(alloc, g.lines, whole.enc(), limits)?;
+    let gap = has_gap(alloc, &heap, roots, budget, whole)?;
+    if gap {
+        return Err(ReadFault::Memory);
     }
+    Ok(heap)
 }

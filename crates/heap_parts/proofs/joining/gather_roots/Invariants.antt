@@ -1,9 +1,0 @@
-use Rattle.heap_parts.specs.Inner.Growing.{Grows}
-use Rattle.heap_parts.proofs.joining.gather_roots.Given as goal
-
-abbrev pub invariant-loop-root : goal.invariant-loop-root
-invariant-loop-root g l =
-    let d = g.D.Dumps in
-    record {
-      grows : Grows (g.W.WholeHeap.has_lines l.whole) (g.W.WholeHeap.written l.whole) l.limit (d.state l.fn.dumps) (d.state l.dumps) l.fn.g.lines.items l.g.lines.items;
-    }
