@@ -24,7 +24,7 @@ fn front(text: &[u8], most: usize) -> &[u8]
     }
 }
 
-// As much of a text as tells a place.
+// The first bytes of a text, as many as tell a place.
 fn cut_text(text: &[u8]) -> &[u8]
     ensures { result.now ≡ cut_text text.now }
 {

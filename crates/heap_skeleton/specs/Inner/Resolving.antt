@@ -17,7 +17,7 @@ pub record IsResolving (addresses : List ℕ) (kinds : List (Option Kind)) (lead
   pub numbers_are : numbers ≡ map (resolved addresses kinds) (take i leads) ++ marks (drop i leads)
   pub left_is : left ≡ references (drop i leads)
 
--- one more is resolved; there is an address if it needs one
+-- one more element is resolved; there is an address if it needs one
 abbrev pub ResolvesNext : List ℕ → List (Option Kind) → ℕ → List ℕ → List ℕ → List ℕ → Option (Bor (List ℕ)) → Type 0
 ResolvesNext addresses kinds i old left new (Some behind) =
     (leads : List Lead) → IsResolving addresses kinds leads i old left → IsResolving addresses kinds leads (i + 1) new behind.now
