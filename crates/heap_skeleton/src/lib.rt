@@ -16,6 +16,7 @@
 //! ```
 #![tactic(auto)]
 
+mod far;
 mod forms;
 mod gathering;
 mod heap_sink;
