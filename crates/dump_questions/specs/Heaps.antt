@@ -1,10 +1,11 @@
 -- What a question on the heap of a process means.
-use Rattle.std.specs.Prelude.{ℕ, ◌+◌, ◌*◌, Bool, false, List, ◌++◌, length, Option, None, Some, nat_lt, if◌then◌else◌}
+use Rattle.std.specs.Prelude.{ℕ, ◌+◌, ◌*◌, Bool, false, List, ◌++◌, length, min, Option, None, Some, nat_lt, if◌then◌else◌}
 use Rattle.std.specs.Option.{option_or}
 use Rattle.dump_io.specs.Limits.{Numbers}
 use Rattle.dump_sections.specs.Loading.{bodies_length}
 use Rattle.dump_sections.specs.Sections.{Section, sections}
-use Rattle.heap_cells.specs.DumpHeaps.{heap_map, heap_weight}
+use Rattle.heap_cells.specs.Cells.{line_cells}
+use Rattle.heap_cells.specs.DumpHeaps.{heap_body, heap_map, heap_weight, literals_body, payloads_of}
 use Rattle.heap_cells.specs.HeapMap.{HeapMap}
 use Rattle.heap_cells.specs.Loading.{heap_bodies}
 use Rattle.binary_refs.specs.Previews.{binaries}
@@ -40,6 +41,11 @@ never x = None
 -- how many references to binaries the heap of a process has
 abbrev pub binary_count : List ℕ → List ℕ → ℕ
 binary_count pid bytes = length (binaries (heap_map pid bytes).cells)
+
+-- how many bytes the bodies of the heap of a process and of the literals have, with two more for each of their heap lines
+abbrev pub heap_text_size : List ℕ → List ℕ → ℕ
+heap_text_size pid bytes =
+    bodies_length (heap_bodies pid (sections bytes)) + 2 * length (line_cells (payloads_of bytes) (heap_body pid bytes) ++ line_cells (payloads_of bytes) (literals_body bytes))
 
 -- ---- kinds of questions
 
@@ -81,11 +87,11 @@ of_any_size {A} pid before refuses what show more = record {
   streams = false;
 }
 
--- one that shows terms of it by some of its lines alone: it also takes these lines, 16 bytes for each of
--- as many bytes as a section's body may have and four more, and 128 for each reference to a binary
+-- one that shows terms of it by some of its lines alone: it also takes these lines, 16 bytes for each of as many bytes as its
+-- text has, or a section's body may have if that is less, and four more, and 128 for each reference to a binary
 abbrev pub of_part : List ℕ → (List Section → List Section) → (HeapMap → Option Refusal) → (List ℕ → Walk → List ℕ) → Meaning
 of_part pid before refuses text =
-    of_any_size pid before refuses (λ bytes. text bytes (walk_of pid bytes)) (λ text. text) (λ limits bytes. 16 * (limits.section + 4) + 128 * binary_count pid bytes)
+    of_any_size pid before refuses (λ bytes. text bytes (walk_of pid bytes)) (λ text. text) (λ limits bytes. 16 * (min limits.section (heap_text_size pid bytes) + 4) + 128 * binary_count pid bytes)
 
 -- one that weighs its parts
 abbrev pub of_weights : {A : Type 0} → List ℕ → (List Section → List Section) → (HeapMap → Option Refusal) → (List ℕ → A) → (A → List ℕ) → Meaning

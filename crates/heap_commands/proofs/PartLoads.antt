@@ -1,5 +1,5 @@
 -- What `peek` has read: of a heap of any size the lines that the shown terms need.
-use Rattle.std.proofs.Common.{◌*◌, ◌++◌, ◌+◌, ◌∙◌, ◌∷◌, ◌≡◌, ◌≤◌, [], ap, append-nil, append_assoc, ap₂, arith, refl, subst, suc, sym, take, zero, Bool, Err, List, None, Ok, Option, Result, Some, ℕ}
+use Rattle.std.proofs.Common.{◌*◌, ◌++◌, ◌+◌, ◌∙◌, ◌∷◌, ◌≡◌, ◌≤◌, [], ap, append-nil, append_assoc, ap₂, arith, length, min, refl, subst, suc, sym, take, zero, Bool, Err, List, None, Ok, Option, Result, Some, ℕ}
 use Rattle.std.specs.Prelude.{codes, decimal, slice_get, Contains, IfErr, IfOk, IsErrAnd}
 use Rattle.std.specs.Option.{option_or, option_to_list}
 use Rattle.std.proofs.lemmas.List.Elements.{Contains-append_right}
@@ -10,12 +10,12 @@ use Rattle.dump_io.specs.Limits.{Numbers}
 use Rattle.dump_sections.specs.Bodies.{body_in, body_length, body_size, body_start}
 use Rattle.dump_sections.specs.Index.{index_of, sections_in, Contents}
 use Rattle.dump_sections.specs.Loading.{bodies_length}
-use Rattle.dump_sections.specs.Sections.{Section}
+use Rattle.dump_sections.specs.Sections.{sections, Section}
 use Rattle.binary_payloads.specs.declared.enc.Enc.{Enc}
 use Rattle.heap_cells.specs.Cells.{first_cells}
 use Rattle.heap_cells.specs.DumpHeaps.{heap_map}
 use Rattle.heap_cells.specs.Loading.{enc_of, heap_bodies, heap_section, literals_section, two_bodies}
-use Rattle.heap_lines.specs.Wholes.{cells_in, HasLines}
+use Rattle.heap_lines.specs.Wholes.{cells_in, text_size, HasLines}
 use Rattle.heap_lines.specs.declared.whole.HeapLines.{HeapLines}
 use Rattle.heap_parts.specs.Firsts.{IsLawful}
 use Rattle.report_lines.specs.Lines.{line_of, total_line, word_space}
@@ -32,7 +32,7 @@ use Rattle.term_unfold.specs.DumpWalks.{walk_of}
 use Rattle.term_unfold.specs.Parts.{answer_in, has_cell}
 use Rattle.term_unfold.specs.Walks.{Walk}
 use Rattle.dump_questions.specs.Meaning.{no_body, no_process, part_in, Meaning}
-use Rattle.dump_questions.specs.Heaps.{address_cause, binary_count, of_part}
+use Rattle.dump_questions.specs.Heaps.{address_cause, binary_count, heap_text_size, of_part}
 use Rattle.dump_questions.specs.Tasks.{refusal_listed}
 use Rattle.heap_commands.specs.Loads.{lacks, unknown_cause, walk_in, AreAnswered, GivesPart, ReadsPart}
 use Rattle.heap_commands.specs.declared.peek.HeapPart.{HeapPart}
@@ -114,11 +114,16 @@ module _ (pid : List ℕ) (addr : Option ℕ) (terms : List Element) (nodes : �
 
     -- it doesn't, and the terms were loaded or not
     module _ (mid : DeviceState) (lines : HeapLines) (enc : lines.enc ≡ enc_of index.version) (has : (bytes : List ℕ) → IsIndexed bytes limits index old.now → HasLines lines mid.now (cells_in pid bytes))
-        (first : ReadsAtMost old mid lines_size) (there : unknown_cause addr known ≡ None) (part : ReadsPart limits.section (HasLines lines mid.now) mid new) where
+        (sized : (bytes : List ℕ) → IsIndexed bytes limits index old.now → text_size lines ≤ lines_size + 2 * length (cells_in pid bytes))
+        (first : ReadsAtMost old mid lines_size) (there : unknown_cause addr known ≡ None) (part : ReadsPart limits.section (text_size lines) (HasLines lines mid.now) mid new) where
       few-terms : (bytes : List ℕ) → IsIndexed bytes limits index old.now
-          → lines_size + (16 * (limits.section + 4) + 128 * part.count) ≤ bodies_length (heap_bodies pid (sections_in index)) + (16 * (limits.section + 4) + 128 * binary_count pid bytes)
+          → lines_size + (16 * (min limits.section (text_size lines) + 4) + 128 * part.count)
+          ≤ bodies_length (heap_bodies pid (sections_in index)) + (16 * (min limits.section (heap_text_size pid bytes) + 4) + 128 * binary_count pid bytes)
       few-terms bytes all =
-          omega (arith, size-two (heap_section pid (sections_in index)) (literals_section (sections_in index)), part.few (cells_in pid bytes) (has bytes all))
+          let bodies = size-two (heap_section pid (sections_in index)) (literals_section (sections_in index)) in
+          let same : bodies_length (heap_bodies pid (sections_in index)) ≡ bodies_length (heap_bodies pid (sections bytes)) = ap (λ i. bodies_length (heap_bodies pid (sections_in i))) all.is in
+          let text : text_size lines ≤ heap_text_size pid bytes = omega (arith, bodies, same, sized bytes all) in
+          omega (arith, bodies, text, part.few (cells_in pid bytes) (has bytes all))
 
       pub Gives-terms : (result : Result HeapPart Stop) → IfErr result (StopsFor mid new (λ why. ⊥))
           → IfOk result (λ part. AreAnswered mid.now index lines nodes (walk_in part) terms) → Gives result

@@ -1,8 +1,8 @@
 -- From what the reports are written, and what is known of it.
-use Rattle.dump_questions.specs.Heaps.{address_cause, binary_count}
+use Rattle.dump_questions.specs.Heaps.{address_cause, binary_count, heap_text_size}
 use Rattle.heap_commands.specs.Rows.{Entered, Rooted}
 use Rattle.dump_questions.specs.Bodies.{shown_body}
-use Rattle.std.specs.Prelude.{◌*◌, ◌++◌, ◌+◌, ◌≡◌, ◌≤◌, [], length, All, Bool, Contains, IsSome, List, MatchResult, None, Option, Result, Some, ℕ}
+use Rattle.std.specs.Prelude.{◌*◌, ◌++◌, ◌+◌, ◌≡◌, ◌≤◌, [], length, min, All, Bool, Contains, IsSome, List, MatchResult, None, Option, Result, Some, ℕ}
 use Rattle.std.specs.Option.{option_to_list}
 use Rattle.dump_io.specs.Limits.{Numbers}
 use Rattle.dump_sections.specs.Bodies.{body_in, body_start, section_in, IsBodyIn, IsPlaceIn}
@@ -48,11 +48,11 @@ seen_roots loaded = record { walk = new_walk loaded.heap loaded.previews; part =
 abbrev pub walk_in : HeapPart → Walk
 walk_in part = new_walk part.heap part.previews
 
--- what is read of a heap of any size for some terms: as much as its lines may take, and
--- 128 bytes for each of so many references to binaries, of which the heap has as many
-pub record ReadsPart (section : ℕ) (has_lines : List Cell → Type 0) (before after : DeviceState) : Type 0 where
+-- what is read of a heap of any size for some terms: 16 bytes for each byte of its lines, of which there are so many at most,
+-- or as many as a section's body may have, and 128 for each of so many references to binaries, of which the heap has as many
+pub record ReadsPart (section size : ℕ) (has_lines : List Cell → Type 0) (before after : DeviceState) : Type 0 where
   pub count : ℕ
-  pub reads : ReadsAtMost before after (16 * (section + 4) + 128 * count)
+  pub reads : ReadsAtMost before after (16 * (min section size + 4) + 128 * count)
   pub few : (all : List Cell) → has_lines all → count ≤ length (binaries (first_cells [] all))
 
 -- over a part of a heap these elements have the answers that they have over the whole
@@ -82,7 +82,7 @@ pub record GivesPart (pid : List ℕ) (addr : Option ℕ) (terms : List Element)
   pub count : ℕ
   pub reads : ReadsAtMost before after count
   pub few : (bytes : List ℕ) → IsIndexed bytes limits index before.now
-      → count ≤ bodies_length (heap_bodies pid (sections_in index)) + (16 * (limits.section + 4) + 128 * binary_count pid bytes)
+      → count ≤ bodies_length (heap_bodies pid (sections_in index)) + (16 * (min limits.section (heap_text_size pid bytes) + 4) + 128 * binary_count pid bytes)
   pub part : MatchResult result (HoldsPart pid addr terms nodes limits index before.now)
       (StopsFor before after (λ why. (bytes : List ℕ) → IsIndexed bytes limits index before.now → lacks addr (heap_map pid bytes) ≡ Some why))
 

@@ -5,7 +5,7 @@ ghost use Rattle.dump_io.specs.Dumps.{ReadsAtMost};
 ghost use Rattle.dump_io.specs.Faults.{IsReadCauseOf};
 ghost use Rattle.dump_sections.specs.Bodies.{body_size, section_in, IsPlaceIn};
 ghost use Rattle.dump_sections.specs.Index.{IsBuiltOver};
-ghost use Rattle.heap_lines.specs.Wholes.{is_known, HasLines, ServesLines};
+ghost use Rattle.heap_lines.specs.Wholes.{is_known, text_size, HasLines, ServesLines};
 ghost use Rattle.root_views.specs.Seen.{content};
 ghost use Rattle.root_lines.specs.Shown.{IsPlaced};
 ghost use Rattle.term_forms.specs.Seen.{element};
@@ -95,7 +95,7 @@ fn load_over<D: Dumps>(
     requires over { IsBuiltOver (D.state dumps.old).now at.now.index.now }
     requires serves { ServesLines lines.now (D.state dumps.old).now }
     requires nodes { 0 < nodes }
-    ensures reads { ReadsPart at.now.limits.now.section (HasLines lines.now (D.state dumps.old).now)
+    ensures reads { ReadsPart at.now.limits.now.section (text_size lines.now) (HasLines lines.now (D.state dumps.old).now)
         (D.state dumps.old) (D.state dumps.new) }
     ensures stops { IfErr result (StopsFor (D.state dumps.old) (D.state dumps.new) (λ why. ⊥)) }
     ensures answered { IfOk result (λ part. AreAnswered (D.state dumps.old).now at.now.index.now

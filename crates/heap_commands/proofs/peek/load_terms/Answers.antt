@@ -43,4 +43,4 @@ returns-clause-gives g c =
     Gives-terms pid c.args.addr (map element c.args.terms.now) c.args.nodes at.limits.now at.index.now before after (is_known lines)
     (λ bytes all. table.known bytes all.opened) found lines table.enc
     (λ bytes all. subst (λ now. HasLines lines now (cells_in pid bytes)) (sym table.reads.same_now) (table.lines bytes all.opened))
-    table.reads c.in_ok-find_line.ensures read.reads c.load_over.result read.stops read.answered
+    (λ bytes all. table.size (cells_in pid bytes) (table.lines bytes all.opened)) table.reads c.in_ok-find_line.ensures read.reads c.load_over.result read.stops read.answered
