@@ -6,7 +6,7 @@ use heap_cells::{Heap, Kind, Seat};
 use heap_lines::HeapLines;
 use heap_parts::load_part;
 use section_index::build;
-use std::alloc::Global;
+use std::alloc::{AllocError, Global};
 use std::process::Abort;
 use std::test::Fail;
 use term_forms::shapes::Elem;
@@ -86,4 +86,87 @@ fn a_part_has_the_cells_that_are_needed(rt: HostRuntime) -> Result<(), Fail> {
     has(&rt, alloc, 0x20, 2, b"-l----", true)?;
     has(&rt, alloc, 0x60, 1, b"-----t", true)?;
     has(&rt, alloc, 0x70, 9, b"------", false)
+}
+
+// Forms of all kinds that lead to further cells; each `#` stands for an address.
+const FORMS: [&[u8]; 16] = [
+    b"lI1|H#",
+    b"lH#|H#",
+    b"lH#|N",
+    b"t0:",
+    b"t1:H#",
+    b"t2:H#,H#",
+    b"Mf0:H#:",
+    b"Mf1:H#:H#",
+    b"Mf2:H#:H#,I2",
+    b"Mf1:I1:H#",
+    b"Mh2:2:H#,H#",
+    b"Mh1:1:I1",
+    b"Mn1:H#",
+    b"Mn2:H#,H#",
+    b"Ys#:0:1",
+    b"Yh3:QUJD",
+];
+
+// The seed that comes after a seed.
+fn next_seed(seed: u64) -> u64 {
+    seed.wrapping_mul(6_364_136_223_846_793_005)
+        .wrapping_add(1_442_695_040_888_963_407)
+}
+
+// Appends a form with addresses from 1 to 9, which a seed chooses, and returns the seed after them.
+fn push_form(text: &mut Vec<u8>, form: &[u8], seed: u64) -> Result<u64, AllocError> {
+    let mut seed = seed;
+    for c in form {
+        if *c == b'#' {
+            seed = next_seed(seed);
+            text.push(b'1' + ((seed >> 33) % 9) as u8)?;
+        } else {
+            text.push(*c)?;
+        }
+    }
+    Ok(seed)
+}
+
+// A dump with a heap of eight cells, whose forms and references a seed chooses.
+fn dump_of(alloc: Global, seed: u64) -> Result<Vec<u8>, AllocError> {
+    let mut text = Vec::new(alloc);
+    text.extend_from_slice(b"=erl_crash_dump:0.5\n=proc_heap:<0.1.0>\n")?;
+    let mut seed = seed;
+    for n in 0..8u8 {
+        seed = next_seed(seed);
+        text.push(b'1' + n)?;
+        text.push(b':')?;
+        seed = push_form(&mut text, FORMS[((seed >> 33) % 16) as usize], seed)?;
+        text.push(b'\n')?;
+    }
+    Ok(text)
+}
+
+// Loads the part of a dump's heap that a root needs.
+fn load_one(alloc: Global, dump: &[u8], root: u64, nodes: u32) -> Result<(), Fail>
+    requires { 0 < nodes }
+{
+    let limits = Limits::usual();
+    let mut dumps = MemDumps::holding(alloc, "V", dump, &[], &[])?;
+    let index = build(alloc, &mut dumps, "V", &limits)?;
+    let Ok(lines) = HeapLines::load(alloc, &mut dumps, &index, b"<0.1.0>") else {
+        return Err(Fail::from("the lines aren't loaded"));
+    };
+    let roots = [Elem::Ref(root)];
+    load_part(alloc, &lines, &mut dumps, &roots, nodes, &limits)?;
+    Ok(())
+}
+
+// Were a gap left, there would be no part. The addresses are 1 to 9, the last of which
+// no line has, and the budgets are of 1 to 15 nodes.
+#[test]
+fn the_search_leaves_no_gap(rt: HostRuntime) -> Result<(), Fail> {
+    let alloc = rt.alloc();
+    for seed in 0..405u64 {
+        let dump = dump_of(alloc, seed)?;
+        let nodes = (seed / 9 % 15) as u32 + 1;
+        load_one(alloc, &dump, seed % 9 + 1, nodes)?;
+    }
+    Ok(())
 }
