@@ -12,6 +12,7 @@ use Rattle.root_views.specs.Sections.{root_section}
 use Rattle.root_views.specs.declared.kinds.RootKind.TheVariants.{Mail}
 use Rattle.size_order.specs.Sorting.{most_first}
 use Rattle.text_groups.specs.Groups.{Item, groups}
+use Rattle.text_groups.specs.Numbers.{weightless}
 use Rattle.text_groups.specs.declared.text_group.TextGroup.{TextGroup}
 use Rattle.message_shapes.specs.Shapes.{message_shape}
 
@@ -36,7 +37,7 @@ messages_of cells roots = map (message_of cells) (filter is_message roots)
 
 -- a message as one of those that are grouped
 abbrev pub item_of : Message → Item
-item_of message = record { text = message.shape; weight = 0 }
+item_of message = weightless message.shape
 
 -- the groups of messages that have the same shape, the largest first, of equal ones that whose first message comes first
 abbrev pub shape_groups : List Message → List TextGroup

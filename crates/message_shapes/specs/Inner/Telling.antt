@@ -1,9 +1,9 @@
 -- What is told of messages as they are heard: where each stands, and to which cell it refers or what its shape is.
 use Rattle.std.specs.Prelude.{ℕ, ◌==◌, ◌<◌, List, [], ◌∷◌, map, filter, flat_map, codes, length, position, slice_index_or, All, Option}
 use Rattle.std.specs.Option.{option_map_or}
-use Rattle.dump_io.specs.Atoms.{atom_text}
 use Rattle.term_forms.specs.Elements.{Element, Nil, Small, Atom, Pid, Port, Ref}
 use Rattle.root_views.specs.Roots.{BodyRoot, Content, Term, Info, Dist, Unread, is_message}
+use Rattle.message_shapes.specs.Shapes.{atom_shape}
 use Rattle.message_shapes.specs.declared.heard.Found.{Found}
 use Rattle.message_shapes.specs.declared.heard.Source.{Source}
 use Rattle.message_shapes.specs.declared.heard.Source.TheVariants as source
@@ -63,7 +63,7 @@ shown_source (source.Text text) = OfText text.now
 abbrev pub plain_shape : Element → List ℕ
 plain_shape Nil = codes "[]"
 plain_shape (Small integer) = codes "integer()"
-plain_shape (Atom name) = atom_text name
+plain_shape (Atom name) = atom_shape name
 plain_shape (Pid pid) = codes "pid()"
 plain_shape (Port port) = codes "port()"
 plain_shape (Ref address) = codes "missing()"
