@@ -33,7 +33,7 @@ abbrev pub mail_at : List ℕ → State → List Section → ℕ → Option ℕ
 mail_at bytes state sections place =
     if is_cut state place then None else Some (message_count (body_of bytes (at_place sections place)))
 
--- how many it has, if there is a mailbox
+-- how many messages a mailbox has that may be missing, unless the dump is truncated in it
 abbrev pub mail_in : List ℕ → State → List Section → Option ℕ → Option ℕ
 mail_in bytes state sections place = option_and_then (mail_at bytes state sections) place
 

@@ -9,7 +9,7 @@ pub struct Holding {
     /// The sizes of the binaries that it holds, together, in
     /// bytes; each counts once, and a sum above 2^64 - 1 is given as that.
     pub bytes: u64,
-    /// That sum, whatever it is.
+    /// The sizes of the binaries that it holds, together, in bytes, even above 2^64 - 1; each counts once.
     pub total: u128,
     /// How many of the binaries it holds.
     pub count: u64,
@@ -32,7 +32,7 @@ pub struct BinaryRow {
     pub size: u64,
     /// How many processes hold it.
     pub holders: u64,
-    /// Its number, which is its address.
+    /// The number of the binary, which is its address.
     pub number: u64,
     /// The offset in the file of its section's header.
     pub at: u64,
@@ -41,9 +41,9 @@ pub struct BinaryRow {
 /// Lines of heaps that refer to binaries as a whole.
 #[derive(Clone, Copy, Debug, PartialEq, Eq, Drop)]
 pub struct WholeLines {
-    /// How many there are; at most 2^64 - 1.
+    /// How many lines refer to binaries as a whole; at most 2^64 - 1.
     pub count: u64,
-    /// How many of them refer to no stored binary; at most 2^64 - 1.
+    /// How many of these lines refer to no stored binary; at most 2^64 - 1.
     pub unstored: u64,
 }
 

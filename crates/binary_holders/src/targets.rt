@@ -50,7 +50,7 @@ fn sum_sizes(binaries: &[Binary]) -> u128
 }
 
 impl Targets {
-    /// These binaries, with the places of their numbers.
+    /// The binaries as targets, with the places of their numbers.
     pub fn new(
         alloc: Global,
         binaries: Vec<Binary>,

@@ -118,7 +118,7 @@ pub fn payload_part(chars: &[u8], enc: Enc, size: u64, from: u64, into: &mut [u8
     // Whatever bytes the characters are the payload of, the bytes read are those of the range.
     ensures part { (bytes : List ℕ) → IsPayload enc chars.now bytes
         → into.new ≡ take (length into.old) (drop from bytes) }
-    // They are the range of what the definitions compute as the payload.
+    // The bytes read are the range of what the definitions compute as the payload.
     ensures exact { option_map (λ bytes. take (length into.old) (drop from bytes))
         (payload_bytes enc chars.now) ≡ Some into.new }
 {

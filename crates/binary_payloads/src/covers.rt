@@ -9,6 +9,6 @@ pub struct Cover {
     pub chars: u64,
     /// How many of the bytes that they write come before the range.
     pub skip: u32,
-    /// How many bytes they write.
+    /// How many bytes these characters write.
     pub bytes: u32,
 }

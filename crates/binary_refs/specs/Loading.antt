@@ -11,7 +11,7 @@ abbrev pub preview_cause : PreviewFault → Cause PreviewFault
 preview_cause Read = fails
 preview_cause Memory = lacks
 
--- why they aren't loaded, as nothing is refused: the device failed; memory may be lacking at any time
+-- why previews aren't loaded, as nothing is refused: the device failed; memory may be lacking at any time
 abbrev pub IsPreviewCauseOf : DeviceState → DeviceState → PreviewFault → Type 0
 IsPreviewCauseOf before after fault = IsCauseOf None before after (preview_cause fault)
 

@@ -19,7 +19,7 @@ abbrev pub own_binary : HeapForm → Option (ℕ × List ℕ)
 own_binary (HeapBin size chars) = Some (size, chars)
 own_binary form = None
 
--- those of the heap binary with this address, if the heap has one there
+-- the length and the characters of the heap binary with this address, if the heap has one there
 abbrev pub heap_binary : List Cell → ℕ → Option (ℕ × List ℕ)
 heap_binary cells address = option_and_then own_binary (option_and_then (form_at cells) (number_at cells address))
 
@@ -69,11 +69,11 @@ stated n (RefBin address offset size) = Some (n, size)
 stated n (SubBin address offset size) = Some (n, size)
 stated n form = None
 
--- those of the cell with a number, if it refers to a binary
+-- the number of a cell, if it refers to a binary, and the size that it states
 abbrev pub stated_at : List Cell → ℕ → Option (ℕ × ℕ)
 stated_at cells n = option_and_then (stated n) (form_at cells n)
 
--- those of all cells of a heap that refer to a binary
+-- the numbers of all cells of a heap that refer to a binary, and the sizes that they state
 abbrev pub binaries : List Cell → List (ℕ × ℕ)
 binaries cells = by_number stated cells (length cells)
 

@@ -41,8 +41,8 @@ fn is_own(kind: Option<Kind>) -> bool
     matches!(kind, Some(Kind::HeapBin))
 }
 
-// Those of the heap binary with this address. The kind is
-// checked first, so that no more is read of any other cell.
+// The length and the characters of the heap binary with this address.
+// The kind is checked first, so that no more is read of any other cell.
 fn heap_binary(heap: &Heap, address: u64) -> Option<(u64, &[u8])>
     ensures found { option_map number_rest result ≡ heap_binary heap.now.cells address }
     ensures payload { IfSome result (λ binary. IsPayloadOf heap.now.enc binary.1.now binary.0) }

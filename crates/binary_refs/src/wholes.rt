@@ -99,7 +99,7 @@ pub fn whole<D: Dumps>(
     ensures answer { IfTold (D.state dumps.old).now
         (λ dump. IsBinAnswerFor (whole_bytes dump index.now addr) result) }
 
-    // These two refusals come before anything is read, whatever the device does.
+    // `NoBinary` and `SectionTooLarge` come before anything is read, whatever the device does.
     ensures refused { IsRefusedFor limits.now.section
         (binary_section addr (sections_in index.now)) result }
 {

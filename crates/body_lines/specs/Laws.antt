@@ -25,7 +25,7 @@ after-more : (c : ℕ) (front : List ℕ) (lines : List (List ℕ)) → lines_af
 after-more c front [] = refl
 after-more c front (line ∷ lines) = refl
 
--- they go to the front of the first line
+-- bytes without an LF go to the front of the first of the lines after them
 pub lines-join : (c : ℕ) (front rest : List ℕ) → HasNoLf (c ∷ front) → raw_lines ((c ∷ front) ++ rest) ≡ join (c ∷ front) (raw_lines rest)
 lines-join c [] rest none = raw_lines-inner c rest (All-head (λ b. b ≢ lf) c [] none) ∙ after-one c (raw_lines rest)
 lines-join c (d ∷ front) rest none =
@@ -152,7 +152,7 @@ pub cut_lines-open : (kept at : ℕ) (bytes : List ℕ) → 0 < length bytes →
 cut_lines-open kept at bytes some free =
     ap (λ l. map (cut kept) (lines_from at l)) (raw_lines-one bytes some (All-take (λ c. c ≢ lf) (length bytes - 1) bytes free))
 
--- so are such bytes and an LF
+-- bytes without an LF, and an LF behind them, are one line
 pub cut_lines-ended : (kept at : ℕ) (bytes : List ℕ) → HasNoLf bytes
     → cut_lines kept at (bytes ++ lf ∷ []) ≡ one_line at (take kept (bytes ++ lf ∷ [])) (length (bytes ++ lf ∷ []))
 cut_lines-ended kept at bytes free =

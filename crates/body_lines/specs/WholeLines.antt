@@ -18,7 +18,7 @@ EndsWhole hears stops old new from upto before after (Unread fault) =
 EndsWhole hears stops old new from upto before after (Stopped stop) =
     StopsFront hears stops lines_at old new from upto before.now stop
 
--- the same where the sink stops for want of memory alone
+-- the fault of reading that a fault of hearing whole lines is, where the sink stops only for want of memory
 abbrev pub read_fault : {T : Type 0} → WholeLinesFault T → ReadFault
 read_fault (Unread fault) = fault
 read_fault (Stopped stop) = Memory

@@ -1,45 +1,30 @@
 // Hearing the lines of a body one by one.
-ghost use Rattle.std.specs.Prelude.{◌≡◌, ◌+◌, ◌<◌, ◌≤◌, ◌^◌, ℕ, List, length, min, Some, None, OnOk, IfOk, IfErr, if◌then◌else◌, nat_lt};
-ghost use Rattle.std.specs.Option.{option_copied};
-ghost use Rattle.dump_io.specs.Lines.{text_of};
+ghost use Rattle.std.specs.Prelude.{◌≡◌, ◌+◌, ◌<◌, ◌≤◌, ◌^◌, ℕ, List, length, min, OnOk, IfOk, IfErr};
 ghost use Rattle.body_lines.specs.Lines.{CutLine, cut_lines, one_line};
 ghost use Rattle.body_lines.specs.Hearing.{Hears, Stops, StopsAmong};
 ghost use Rattle.body_lines.specs.Inner.Pieces.{HearsFirst};
 
 use crate::line_sink::LineSink;
-use dump_io::{line_len, line_text};
-
-/// The text of a line of `size` bytes whose first bytes are `front`: the line without
-/// its LF and one CR directly before it. `None` if the line has more bytes than these.
-pub fn whole_text(front: &[u8], size: u64) -> Option<&[u8]>
-    ensures { option_copied result ≡
-        (if nat_lt (length front.now) size then None else Some (text_of front.now)) }
-{
-    if (front.len() as u64) < size {
-        None
-    } else {
-        Some(line_text(front))
-    }
-}
+use dump_io::line_len;
 
 /// Hears the lines of a body one by one, in order, until it stops.
 pub trait EachLine {
-    /// The answer with which it stops.
+    /// The answer with which the sink stops.
     type Stop;
 
-    /// How many bytes of a line it needs, counted from the line's beginning.
+    /// How many bytes of a line the sink needs, counted from the line's beginning.
     ghost kept: { ℕ };
 
-    /// Whether it may hear lines.
+    /// Whether the sink may hear lines.
     ghost ready: { Self → Type 0 };
 
-    /// Which lines it heard between two states.
+    /// Which lines the sink heard between two states.
     ghost hears: { Self → Self → List CutLine → Type 0 };
 
-    /// Which lines it heard between two states before it stopped, and with which answer.
+    /// Which lines the sink heard between two states before it stopped, and with which answer.
     ghost stops: { Self → Self → List CutLine → Self.Stop → Type 0 };
 
-    /// How many bytes of a line it needs.
+    /// How many bytes of a line the sink needs.
     fn kept() -> u16
         ensures { result ≡ kept };
 

@@ -14,7 +14,7 @@ pub enum LinesFault<S> {
 /// Why the lines weren't all heard, each of them whole.
 #[derive(Drop)]
 pub enum WholeLinesFault<S> {
-    /// They weren't all read: the device failed, or there was no memory for a line.
+    /// The lines weren't all read: the device failed, or there was no memory for a line.
     Unread(ReadFault),
     /// What hears the lines stopped, with this answer.
     Stopped(S),

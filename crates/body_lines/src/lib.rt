@@ -27,7 +27,7 @@ mod starts;
 mod whole_lines;
 mod whole_sink;
 
-pub use each_line::{ByLine, EachLine, whole_text};
+pub use each_line::{ByLine, EachLine};
 pub use faults::{LinesFault, WholeLinesFault};
 pub use line_sink::LineSink;
 pub use reading::{hear_body, make_buffer};

@@ -5,22 +5,22 @@ ghost use Rattle.body_lines.specs.Hearing.{Hears, StopsAmong};
 
 /// Hears the lines of a body in order, until it stops. Of a long line it gets no more than the first bytes.
 pub trait LineSink {
-    /// The answer with which it stops.
+    /// The answer with which the sink stops.
     type Stop;
 
-    /// How many bytes of a line it needs, counted from the line's beginning.
+    /// How many bytes of a line the sink needs, counted from the line's beginning.
     ghost kept: { ℕ };
 
-    /// Whether it may hear lines.
+    /// Whether the sink may hear lines.
     ghost ready: { Self → Type 0 };
 
-    /// Which lines it heard between two states.
+    /// Which lines the sink heard between two states.
     ghost hears: { Self → Self → List CutLine → Type 0 };
 
-    /// Which lines it heard between two states before it stopped, and with which answer.
+    /// Which lines the sink heard between two states before it stopped, and with which answer.
     ghost stops: { Self → Self → List CutLine → Self.Stop → Type 0 };
 
-    /// How many bytes of a line it needs.
+    /// How many bytes of a line the sink needs.
     fn kept() -> u16
         ensures { result ≡ kept };
 

@@ -6,16 +6,16 @@ ghost use Rattle.body_lines.specs.Hearing.{Hears, StopsAmong};
 
 /// Hears the lines of a body in order, each of them whole, until it stops.
 pub trait WholeLineSink {
-    /// The answer with which it stops.
+    /// The answer with which the sink stops.
     type Stop;
 
-    /// Whether it may hear lines.
+    /// Whether the sink may hear lines.
     ghost ready: { Self → Type 0 };
 
-    /// Which lines it heard between two states.
+    /// Which lines the sink heard between two states.
     ghost hears: { Self → Self → List Line → Type 0 };
 
-    /// Which lines it heard between two states before it stopped, and with which answer.
+    /// Which lines the sink heard between two states before it stopped, and with which answer.
     ghost stops: { Self → Self → List Line → Self.Stop → Type 0 };
 
     /// Hears a run of lines, the first of which begins at the offset `at`. Each

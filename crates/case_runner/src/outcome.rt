@@ -55,7 +55,7 @@ pub struct Failure {
     /// How many bytes of the case's dump it ran on.
     pub length: usize,
     pub end: Outcome,
-    /// How it had to end.
+    /// How the run had to end.
     pub wanted: &'static str,
 }
 

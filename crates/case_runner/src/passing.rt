@@ -46,7 +46,7 @@ fn check_run(alloc: Global, case: &Case, hindrance: Hindrance) -> Result<(), Fau
     failed(case, hindrance, end, AS_EXPECTED)
 }
 
-// So does that with reads and writes of a size.
+// The run with reads and writes of a size has to end as the case says.
 fn check_cut(alloc: Global, case: &Case, cut: usize) -> Result<(), Fault> {
     let cutting = Hindrance {
         cut,
@@ -56,7 +56,8 @@ fn check_cut(alloc: Global, case: &Case, cut: usize) -> Result<(), Fault> {
     check_run(alloc, case, cutting)
 }
 
-// So do those with several sizes, and with all up to the one that the case names.
+// The runs with reads and writes of several sizes, and of all up
+// to the one that the case names, have to end as the case says.
 fn check_cuts(alloc: Global, case: &Case) -> Result<(), Fault> {
     for cut in CUTS {
         check_cut(alloc, case, cut)?;
@@ -100,8 +101,8 @@ fn check_calls_cut(alloc: Global, case: &Case, cut: usize) -> Result<(), Fault> 
     failed(case, NONE, end, "after fewer calls of the device")
 }
 
-// The same with reads as long as they come and with some forty reads
-// of the dump. A case that isn't done may end before its first read.
+// Lets one call of the device fail after another, with reads as long as they come and with
+// some forty reads of the dump. A case that isn't done may end before its first read.
 fn check_calls(alloc: Global, case: &Case) -> Result<(), Fault> {
     if case.status == u64::from(UNREAD) {
         return Ok(());
@@ -110,7 +111,8 @@ fn check_calls(alloc: Global, case: &Case) -> Result<(), Fault> {
     check_calls_cut(alloc, case, case.dump.len() / 40 + 1)
 }
 
-// The same with reads of one byte, for the first calls; if none of them fails, the case ends alike.
+// Lets one of the first calls of the device fail after another,
+// with reads of one byte. If no call fails, the case ends alike.
 fn check_first_calls(alloc: Global, case: &Case) -> Result<(), Fault> {
     for failing_call in 1..=FIRST_CALLS {
         let failing = Hindrance {

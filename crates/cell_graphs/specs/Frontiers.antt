@@ -12,7 +12,7 @@ pub record Frontier : Type 0 where
   -- the cells that wait, the one that came last first
   pub waiting : List ℕ
 
--- whether a cell is one of them
+-- whether a cell is among some cells
 abbrev pub is_on : ℕ → List ℕ → Bool
 is_on cell cells = list_any (nat_eq cell) cells
 

@@ -14,7 +14,7 @@ Graph = List (List (Option ℕ))
 abbrev pub places_at : Graph → ℕ → List (Option ℕ)
 places_at graph m = slice_index_or graph m []
 
--- the cell leads to the other
+-- a cell leads to another
 abbrev pub Leads : Graph → ℕ → ℕ → Type 0
 Leads graph m n = (k : ℕ) × (slice_get (places_at graph m) k ≡ Some (Some n))
 

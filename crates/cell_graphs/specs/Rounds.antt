@@ -24,6 +24,6 @@ after_rounds zero graph begun n = begun n
 after_rounds (suc rounds) graph begun n =
     after_rounds rounds graph begun n || is_led graph (after_rounds rounds graph begun) (length graph) n
 
--- the cells that these reach: as many rounds as there are cells are enough
+-- the cells that a set reaches: as many rounds as there are cells are enough
 abbrev pub reached_from : Graph → (ℕ → Bool) → ℕ → Bool
 reached_from graph begun n = after_rounds (length graph) graph begun n

@@ -54,7 +54,7 @@ impl CellGraph for Heap {
 
     fn places(&self, cell: u32) -> usize {
         let ix = self.cell(cell);
-        // Its address is no element, so a sub binary has no slot.
+        // The address of a sub binary is no element, so that a sub binary has no slot.
         if let Some(Kind::SubBin) = self.kind(ix) {
             return 1;
         }

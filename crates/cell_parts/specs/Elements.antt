@@ -51,7 +51,7 @@ weighed_at (suc n) kinds graph passed (spot ∷ spots) =
 abbrev pub weighed_leads : List (Option Kind) → Graph → ℕ → List (Option ℕ)
 weighed_leads kinds graph cell = weighed_at (length kinds) kinds graph (cell ∷ []) (spots_of kinds graph cell)
 
--- each with its number among them as its place, and a label that says nothing
+-- these leads as elements: each has its number among them as its place, and a label that says nothing
 abbrev pub placed_leads : List (Option ℕ) → List PartElement
 placed_leads leads = map (λ p. record { lead = p.1; at = p.0; label = codes "-" }) (enumerate_from 0 leads)
 

@@ -38,7 +38,7 @@ pub record CellParts : Type 0 where
   pub elements : ℕ
   pub parts : List CellPart
 
--- they are the parts that these elements make
+-- the parts found are those that these elements make, and the elements are counted
 pub record ArePartsOf (elements : List PartElement) (found : CellParts) : Type 0 where
   pub count : found.elements ≡ length elements
   pub parts : found.parts ≡ parts_made elements

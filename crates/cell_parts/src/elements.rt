@@ -66,7 +66,7 @@ fn opened<G: Kinded>(graph: &G, passed: &[bool], at: Frame, lead: Option<u32>) -
     }
 }
 
-// One more element, if it is weighed: the next after those since there were `begun` of them.
+// Adds one more element, if it is weighed: the next after those since there were `begun` of them.
 fn add_lead(
     parts: &mut Parts,
     begun: u64,

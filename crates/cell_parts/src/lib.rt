@@ -9,14 +9,13 @@
 //! of one cell, and [`Parts::add`] any other.
 //!
 //! ```
-//! let mut parts = Parts::new(alloc, heap.cells() as usize)?;
+//! let mut parts = Parts::new(alloc, skeleton.cells() as usize)?;
 //! parts.add(Some(3), 154, b"m")?;
-//! let shares = weigh(alloc, &heap, parts.cells())?;
+//! let shares = weigh(alloc, &skeleton, parts.cells())?;
 //! ```
 #![tactic(auto)]
 
 mod elements;
-mod heap_kinds;
 mod kinded;
 mod laws;
 mod parts;

@@ -18,9 +18,9 @@ const MOST: usize = 4_294_967_294;
 pub(crate) struct Kept {
     // How many elements lead to it.
     pub elements: u64,
-    // What the first of them says of its place.
+    // What the first element that leads to it says of its place.
     pub at: u64,
-    // Where its label begins among those of all parts, and how many bytes it has.
+    // Where the label of that first element begins among those of all parts, and how many bytes it has.
     pub from: u32,
     pub size: u32,
 }
@@ -53,7 +53,7 @@ impl Model for Parts {
     ghost invariant = { λ p. AreKept p.places.items p.cells.items p.kept.items p.labels.items };
 }
 
-// One more, if it can be counted.
+// One more than a count, if that has 64 bits.
 fn one_more(count: u64) -> Result<u64, AllocError>
     ensures { IfOk result (λ more. more ≡ count + 1) }
 {
@@ -183,7 +183,7 @@ impl Parts {
         Ok(())
     }
 
-    // One more element leads to the cell of a part.
+    // Counts one more element that leads to the cell of a part.
     fn count_one(&mut self, part: usize) -> Result<(), AllocError>
         requires { part < length self.old.parts }
         ensures cells { self.new.cells ≡ self.old.cells }
@@ -210,7 +210,7 @@ impl Parts {
         }
     }
 
-    // One more element leads to a cell.
+    // Adds one more element, which leads to a cell.
     fn add_lead(&mut self, cell: u32, at: u64, label: &[u8]) -> Result<(), AllocError>
         requires { cell < self.old.cells }
         ensures cells { self.new.cells ≡ self.old.cells }

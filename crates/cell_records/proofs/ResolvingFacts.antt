@@ -2,7 +2,7 @@
 use Rattle.std.proofs.Common.{◌≡◌, ℕ, zero, suc, [], ◌∷◌, ◌+◌, ◌<◌, ◌≤◌, ◌⊎◌, ⊎_elim, inl, inr, List, ◌++◌, length, get_or, set, map, Option, None, Some, refl, sym, ◌∙◌, ap, subst, arith, below_more, ◌^◌}
 use Rattle.std.specs.Prelude.{slice_get, All, Contains}
 use Rattle.std.specs.Option.{option_map_or}
-use Rattle.std.specs.List.Sorted.{IsPermutation, IsNonDecreasingBy}
+use Rattle.std.specs.List.Sorted.{IsPermutation}
 use Rattle.std.proofs.lemmas.List.Sorted.{All-permutation, Contains-permutation}
 use Rattle.std.proofs.lemmas.List.Elements.{All-push, Contains-push, Contains-append_left}
 use Rattle.std.proofs.lemmas.Option.{get_or_from_slice_get, slice_get_within, slice_get-get_or}
@@ -11,11 +11,9 @@ use Rattle.std.proofs.lemmas.Grind.{get_or-set_at}
 use Rattle.std.proofs.lemmas.List.{get_or_default, get_or-set_other, get_or-map, length-set, length-map, same_lists, append-nil}
 use Rattle.cell_records.specs.declared.cells.Slot.{Slot}
 use Rattle.cell_records.specs.declared.cells.Slot.TheVariants as slot
-use Rattle.cell_records.specs.Order.{number_with, AreRanked, AreSorted}
+use Rattle.cell_records.specs.Order.{number_with, AreRanked}
 use Rattle.cell_records.specs.Resolving.{settled}
 use Rattle.cell_records.specs.Inner.References.{reference_of, found_at, AreReferences}
-use Rattle.cell_records.specs.Inner.Places.{IsFirstFrom}
-use Rattle.cell_records.proofs.OrderFacts.{lesser}
 
 -- those among the first slots
 pub record AreFound (slots : List Slot) (references : List (ℕ × ℕ)) (upto : ℕ) : Type 0 where
@@ -28,11 +26,9 @@ pub record AreResolving (xs : List ℕ) (olds slots : List Slot) (references : L
   pub each : (i : ℕ) (d : Slot) → i < length olds → (get_or slots i d ≡ get_or olds i d) ⊎ (get_or slots i d ≡ settled xs (get_or olds i d))
   pub over : (k : ℕ) (d : Slot) → k < upto → get_or slots (get_or references k (0, 0)).1 d ≡ settled xs (get_or olds (get_or references k (0, 0)).1 d)
 
--- the first references are settled, and the pairs in front of a place have lesser addresses than those that are left
-pub record IsMerging (pairs : List (ℕ × ℕ)) (olds slots : List Slot) (references : List (ℕ × ℕ)) (at k : ℕ) : Type 0 where
-  pub within : at ≤ length pairs
-  pub front : (i j : ℕ) → i < at → k ≤ j → j < length references → (get_or pairs i (0, 0)).0 < (get_or references j (0, 0)).0
-  pub resolving : (xs : List ℕ) → AreRanked xs pairs → AreResolving xs olds slots references k
+-- the first references are settled, of whichever addresses these are the pairs
+abbrev pub AreResolvingIn : List (ℕ × ℕ) → List Slot → List Slot → List (ℕ × ℕ) → ℕ → Type 0
+AreResolvingIn pairs olds slots references k = (xs : List ℕ) → AreRanked xs pairs → AreResolving xs olds slots references k
 
 -- ---- the references are found
 
@@ -137,27 +133,6 @@ pub references-moved : (slots : List Slot) (references sorted : List (ℕ × ℕ
 references-moved slots references sorted are moved = record {
   sound = All-permutation (λ (r : ℕ × ℕ). IsOf slots r) references sorted moved are.sound;
   complete = λ i address at. Contains-permutation references sorted (address, i) moved (are.complete i address at);
-}
-
--- ---- the merge
-
--- the addresses of references rise where they are ranked
-pub references-rise : (slots : List Slot) (references : List (ℕ × ℕ)) → length slots < 2 ^ 32 → AreReferences slots references
-    → AreSorted references → IsNonDecreasingBy (λ (p : ℕ × ℕ). p.0) references
-references-rise slots references few are sorted i j d up inside =
-    lesser (get_or references i d).0 (get_or references j d).0 (get_or references i d).1 (get_or references j d).1 (place i (omega arith)) (place j inside) (sorted i j d up inside)
-  where
-    place : (k : ℕ) → k < length references → (get_or references k d).1 < 2 ^ 32
-    place k listed = let there = slice_get_within slots (get_or references k d).1 (slot.Gone (get_or references k d).0) (are.sound k d listed) in omega (arith, there, few)
-
-pub merging-more : (pairs : List (ℕ × ℕ)) (olds slots : List Slot) (references : List (ℕ × ℕ)) (at next k : ℕ) (number : Option ℕ) → k < length references → AreReferences olds references
-    → IsNonDecreasingBy (λ (p : ℕ × ℕ). p.0) references → IsMerging pairs olds slots references at k → IsFirstFrom pairs (get_or references k (0, 0)).0 next
-    → ((xs : List ℕ) → AreRanked xs pairs → number ≡ number_with xs (get_or references k (0, 0)).0)
-    → IsMerging pairs olds (found_at slots (get_or references k (0, 0)).1 number) references next (k + 1)
-merging-more pairs olds slots references at next k number listed are rise before first found = record {
-  within = first.within;
-  front = λ i j earlier later inside. let less = first.front i earlier in let up = rise k j (0, 0) (omega arith) inside in omega (arith, less, up);
-  resolving = λ xs ranked. resolving-more xs olds slots references k number listed are (before.resolving xs ranked) (found xs ranked);
 }
 
 -- ---- slots that are settled before the others

@@ -11,8 +11,8 @@ use Rattle.cell_records.specs.Slots.{slots_at}
 abbrev pub moved_record : List CellRecord → ℕ → ℕ → List CellRecord
 moved_record records i first = option_map_or (λ r. record r { first = first } ∷ []) (slice_get records i) []
 
--- those of the first n records that are the first with their address, and their
--- slots: those of each record come behind those of the one before
+-- of the first n records those that are the first with their address, and their
+-- slots: the slots of each record come behind those of the record before it
 abbrev pub kept_upto : List CellRecord → List Slot → ℕ → List CellRecord × List Slot
 kept_upto records slots zero = ([], [])
 kept_upto records slots (suc n) =

@@ -56,9 +56,9 @@ pub enum Kind {
 /// The part of a heap's texts that spells an element. What a heap promises doesn't depend on it.
 #[derive(Clone, Copy)]
 pub struct Span {
-    /// How many bytes of the texts stand before it.
+    /// How many bytes of the texts stand before the element.
     pub at: u32,
-    /// How many bytes it has.
+    /// How many bytes the element has.
     pub len: u32,
 }
 

@@ -1,10 +1,10 @@
 // Pairs of an address and a number.
 ghost use Rattle.std.specs.Prelude.{◌≡◌, ◌<◌, ◌≤◌, ◌++◌, ◌∷◌, [], ℕ, List, length, map, slice_index_or, IfOk, OnOk, OnErr, IfSome, ◌%◌, ◌^◌};
-ghost use Rattle.std.specs.List.Sorted.{IsNonDecreasingBy, IsPermutation};
+ghost use Rattle.std.specs.List.Sorted.{IsPermutation};
 ghost use Rattle.cell_records.specs.Order.{IsNumberIn, IsOrder, IsRanking, AreRanked, AreSorted};
-ghost use Rattle.cell_records.specs.Inner.Places.{IsFirstFrom};
 ghost use Rattle.cell_records.specs.Inner.Ranks.{pair_at, reach, IsSplit};
 
+use crate::search::{first_at, number_there};
 use std::alloc::{AllocError, Global};
 use std::marker::Model;
 
@@ -129,83 +129,6 @@ fn widened(
     let mut pairs = pairs_at(alloc, base, bits, ranks)?;
     append(&mut pairs, pair)?;
     Ok(pairs)
-}
-
-// So many of `last` places as `above` is of `whole`, or half of them if that isn't easily told.
-fn share(above: u64, whole: u64, last: u64) -> u64
-    ensures { result ≤ last }
-{
-    if above >= whole {
-        return last;
-    }
-    match above.checked_mul(last) {
-        Some(product) => (product / whole).min(last),
-        None => last / 2,
-    }
-}
-
-// The place, of those from one up to another, at which the address would stand if those between lay evenly.
-fn likely(ranks: &Ranks, from: usize, upto: usize, address: u64) -> usize
-    requires some { from < upto }
-    requires within { upto ≤ length ranks.now }
-    ensures from { from ≤ result }
-    ensures upto { result < upto }
-{
-    let low = ranks.get(from).0;
-    let high = ranks.get(upto - 1).0;
-    let last = upto - 1 - from;
-    let above = address.saturating_sub(low);
-    from + share(above, high.saturating_sub(low), last as u64) as usize
-}
-
-// How often in a row a search looks at a likely place before it looks at the middle.
-const GUESSES: u32 = 2;
-
-// A place from one up to another at which a search looks next. Any would do, and of three that it looks at one is the
-// middle, so that it takes at most three times as many looks as by halving.
-fn next_look(ranks: &Ranks, from: usize, upto: usize, address: u64, guessed: &mut u32) -> usize
-    requires some { from < upto }
-    requires within { upto ≤ length ranks.now }
-    ensures from { from ≤ result }
-    ensures upto { result < upto }
-{
-    if *guessed < GUESSES {
-        *guessed += 1;
-        return likely(ranks, from, upto, address);
-    }
-    *guessed = 0;
-    from + (upto - from) / 2
-}
-
-// How many of the pairs, whose addresses ascend, have a lower address: these come first.
-fn first_at(ranks: &Ranks, address: u64) -> usize
-    requires { IsNonDecreasingBy (λ pair. pair.0) ranks.now }
-    ensures { IsFirstFrom ranks.now address result }
-{
-    let mut from = 0;
-    let mut upto = ranks.len();
-    let mut guessed = 0;
-    while from < upto {
-        let middle = next_look(ranks, from, upto, address, &mut guessed);
-        if ranks.get(middle).0 < address {
-            from = middle + 1;
-        } else {
-            upto = middle;
-        }
-    }
-    from
-}
-
-// The number of the first cell with the address, whose pair would be at the place.
-pub(crate) fn number_there(ranks: &Ranks, at: usize, address: u64) -> Option<u32>
-    requires { IsFirstFrom ranks.now address at }
-    ensures { IsNumberIn ranks.now address result }
-{
-    if at == ranks.len() {
-        return None;
-    }
-    let (found, number) = ranks.get(at);
-    if found == address { Some(number) } else { None }
 }
 
 impl Ranks {

@@ -1,14 +1,13 @@
 // Resolving references to the cells that they lead to.
-ghost use Rattle.std.specs.Prelude.{◌≡◌, ℕ, ◌<◌, ◌≤◌, ◌++◌, length, slice_index_or, map, Some, IfSome, IfOk, OnOk, ◌^◌, []};
-ghost use Rattle.std.specs.List.Sorted.{IsNonDecreasingBy};
-ghost use Rattle.cell_records.specs.Order.{addresses_of, number_with, AreAllFirst, AreRanked};
+ghost use Rattle.std.specs.Prelude.{◌≡◌, ◌<◌, ◌++◌, length, slice_index_or, map, IfOk, OnOk, ◌^◌, []};
+ghost use Rattle.cell_records.specs.Order.{addresses_of, AreAllFirst, AreRanked, IsRanking};
 ghost use Rattle.cell_records.specs.Resolving.{settled, AreSettled};
-ghost use Rattle.cell_records.specs.Inner.Places.{IsFirstFrom};
 ghost use Rattle.cell_records.specs.Inner.References.{reference_of, found_at, AreReferences, IsHalfSettled};
 
 use crate::cells::{CellIx, CellRecord, Slot};
-use crate::order::{number_near, stands_at};
-use crate::ranks::{Ranks, number_there};
+use crate::near::Near;
+use crate::ranks::Ranks;
+use crate::search::Search;
 use std::alloc::{AllocError, Global};
 
 fn push_reference(
@@ -54,19 +53,6 @@ fn references_of(alloc: Global, slots: &[Slot], ranks: &Ranks) -> Result<Ranks, 
     Ok(references)
 }
 
-// The place of the first pair whose address isn't lower; no pair before the place `from` is one.
-fn first_from(ranks: &Ranks, from: usize, address: u64) -> usize
-    requires within { from ≤ length ranks.now }
-    requires front { (i : ℕ) → i < from → (slice_index_or ranks.now i (0, 0)).0 < address }
-    ensures { IsFirstFrom ranks.now address result }
-{
-    let mut at = from;
-    while at < ranks.len() && ranks.get(at).0 < address {
-        at += 1;
-    }
-    at
-}
-
 fn put_cell(slots: &mut [Slot], place: usize, number: Option<u32>)
     requires { place < length slots.old }
     ensures { slots.new ≡ found_at slots.old place number }
@@ -76,24 +62,24 @@ fn put_cell(slots: &mut [Slot], place: usize, number: Option<u32>)
     }
 }
 
-// Both lists are sorted, so that one pass over them finds the cell of each reference.
+// Makes each of these references to the address of a cell that cell. If their addresses ascend, one pass finds the cells.
 fn resolve_each(slots: &mut [Slot], references: &Ranks, ranks: &Ranks)
     requires references { AreReferences slots.old references.now }
-    requires ascend { IsNonDecreasingBy (λ pair. pair.0) references.now }
+    requires ranking { IsRanking ranks.now }
     ensures { AreSettled ranks.now slots.old slots.new }
 {
-    let mut at = 0;
+    let mut search = Search::new(ranks);
     for k in 0..references.len() {
         let (address, place) = references.get(k);
-        at = first_from(ranks, at, address);
-        let number = number_there(ranks, at, address);
+        let number = search.find(address);
         put_cell(slots, place as usize, number);
     }
 }
 
 // Makes each reference to the address of a cell that cell, if there is memory.
 fn resolve_part(alloc: Global, slots: &mut [Slot], ranks: &Ranks) -> Result<(), AllocError>
-    requires { length slots.old < 2 ^ 32 }
+    requires few { length slots.old < 2 ^ 32 }
+    requires ranking { IsRanking ranks.now }
     ensures { OnOk result (AreSettled ranks.now slots.old slots.new) }
 {
     let mut references = references_of(alloc, slots, ranks)?;
@@ -109,7 +95,8 @@ fn resolve_parts(
     ranks: &Ranks,
     halvings: u32,
 ) -> Result<(), AllocError>
-    requires { length slots.old < 2 ^ 32 }
+    requires few { length slots.old < 2 ^ 32 }
+    requires ranking { IsRanking ranks.now }
     ensures { OnOk result (AreSettled ranks.now slots.old slots.new) }
 {
     if halvings == 0 {
@@ -121,30 +108,6 @@ fn resolve_parts(
     resolve_parts(alloc, rest, ranks, halvings - 1)
 }
 
-// After how many references that led one cell further a search is worth its time, where one leads elsewhere.
-const RUN: u32 = 8;
-
-// Where the next reference is looked for before it is searched for.
-#[derive(Clone, Copy)]
-pub(crate) struct Near {
-    // The cell behind the one to which the last reference led.
-    cell: u32,
-    // How many references in a row led there.
-    run: u32,
-}
-
-// The number of the cell with an address, if it is near, or if it is worth a search.
-fn look_near(ranks: &Ranks, cells: &[CellRecord], address: u64, near: &mut Near) -> Option<u32>
-    requires ranked { AreRanked (addresses_of cells.now) ranks.now }
-    requires distinct { AreAllFirst (addresses_of cells.now) }
-    ensures { IfSome result (λ n. number_with (addresses_of cells.now) address ≡ Some n) }
-{
-    if near.run < RUN && !stands_at(cells, near.cell, address) {
-        return None;
-    }
-    number_near(ranks, cells, near.cell, address)
-}
-
 // The slot with its reference resolved, if that is easily told.
 fn settled_near(slot: Slot, ranks: &Ranks, cells: &[CellRecord], near: &mut Near) -> Slot
     requires ranked { AreRanked (addresses_of cells.now) ranks.now }
@@ -154,23 +117,13 @@ fn settled_near(slot: Slot, ranks: &Ranks, cells: &[CellRecord], near: &mut Near
     let Slot::Gone(address) = slot else {
         return slot;
     };
-    let Some(number) = look_near(ranks, cells, address, near) else {
-        return slot;
-    };
-    let run = if number == near.cell {
-        near.run.saturating_add(1)
-    } else {
-        0
-    };
-    *near = Near {
-        cell: number + 1,
-        run,
-    };
-    Slot::Cell(CellIx::new(number))
+    match near.find(ranks, cells, address) {
+        Some(number) => Slot::Cell(CellIx::new(number)),
+        None => slot,
+    }
 }
 
-// Resolves the references that are easily told. Mostly a reference leads to the cell
-// behind the one to which the reference before it led.
+// Resolves the references that are easily told.
 fn resolve_near(slots: &mut [Slot], ranks: &Ranks, cells: &[CellRecord])
     requires ranked { AreRanked (addresses_of cells.now) ranks.now }
     requires distinct { AreAllFirst (addresses_of cells.now) }
@@ -178,13 +131,14 @@ fn resolve_near(slots: &mut [Slot], ranks: &Ranks, cells: &[CellRecord])
     ensures half { map (settled (addresses_of cells.now)) slots.new
         ≡ map (settled (addresses_of cells.now)) slots.old }
 {
-    let mut near = Near { cell: 0, run: RUN };
+    let mut near = Near::new();
     for i in 0..slots.len() {
         slots[i] = settled_near(slots[i], ranks, cells, &mut near);
     }
 }
 
-// The others are sorted.
+// Makes each reference to the address of a cell that cell, if there is memory: first
+// those that are easily told, then the others, whose addresses are sorted.
 fn resolve(
     alloc: Global,
     slots: &mut [Slot],

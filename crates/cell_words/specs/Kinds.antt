@@ -1,5 +1,5 @@
 -- The words of a form by its kind, the number of its elements and its payload.
-use Rattle.std.specs.Prelude.{ℕ, ◌+◌, Option, None, Some}
+use Rattle.std.specs.Prelude.{ℕ, ◌+◌}
 use Rattle.std.specs.Int.{div_ceil}
 use Rattle.term_forms.specs.Forms.{HeapForm, Long, Ext, HeapBin}
 use Rattle.cell_records.specs.declared.cells.Kind.{Kind}
@@ -28,8 +28,3 @@ payload_words (Long number) = long_words number
 payload_words (Ext size chars) = div_ceil size 8
 payload_words (HeapBin size chars) = div_ceil size 8
 payload_words form = 0
-
--- the same of a cell
-abbrev pub payload_in : Option HeapForm → ℕ
-payload_in None = 0
-payload_in (Some form) = payload_words form

@@ -2,11 +2,12 @@ ghost use Rattle.std.specs.Prelude.{◌+◌, ◌≤◌};
 ghost use Rattle.dump_io.specs.Dumps.{IsOpen, size_of};
 
 use dump_io::{Dumps, Failed, Sink, read_full, write_all};
-use host_devices::{FileDumps, StdSink};
+use host_devices::{FileDumps, StdSink, read_retrying};
 use std::alloc::Global;
 use std::cell::{Cell, RefCell};
 use std::fs;
-use std::io::{self, Write};
+use std::io::{self, ErrorKind, Write};
+use std::os::unix::fs::FileExt;
 use std::process::{self, Abort};
 use std::test::Fail;
 
@@ -28,14 +29,83 @@ fn seven_at<D: Dumps>(dumps: &mut D, at: u64) -> Result<[u8; 7], Failed>
     Ok(into)
 }
 
+// Reads once into a buffer of twenty bytes, and returns how many came, and the buffer.
+fn one_read<D: Dumps>(dumps: &mut D, at: u64) -> Result<(usize, [u8; 20]), Failed>
+    requires inside { at < size_of (D.state dumps.old).now }
+{
+    let mut into = [b'.'; 20];
+    let n = dumps.read_at(at, &mut into)?;
+    Ok((n, into))
+}
+
+#[test]
+fn a_read_puts_its_bytes_at_the_start_of_a_larger_buffer(rt: HostRuntime) -> Result<(), Fail> {
+    let path = own_path(&rt, "start")?;
+    fs::write(&rt, path.as_str(), "0123456789")?;
+    let mut dumps = FileDumps::new(&rt);
+    assert_eq!(rt; dumps.open_dump(&path)?, 10);
+    assert_eq!(rt; one_read(&mut dumps, 6)?, (4, *b"6789................"));
+    fs::remove_file(&rt, path.as_str())?;
+    Ok(())
+}
+
+// A file whose reads are interrupted some times, and then answer once each.
+#[derive(Drop)]
+struct Interrupted {
+    times: Cell<u32>,
+    answer: Result<u8, ErrorKind>,
+}
+
+impl FileExt for Interrupted {
+    fn read_at(&self, buf: &mut [u8], _offset: u64) -> io::Result<usize> {
+        let times = self.times.get();
+        if times > 0 {
+            self.times.set(times - 1);
+            return Err(ErrorKind::Interrupted.into());
+        }
+        match self.answer {
+            Ok(byte) => {
+                buf.fill(byte);
+                Ok(buf.len())
+            }
+            Err(kind) => Err(kind.into()),
+        }
+    }
+
+    fn write_at(&self, _buf: &[u8], _offset: u64) -> io::Result<usize> {
+        Err(ErrorKind::Unsupported.into())
+    }
+}
+
+#[test]
+fn an_interrupted_read_is_tried_again_and_another_error_is_not(
+    rt: HostRuntime,
+) -> Result<(), Fail> {
+    let file = Interrupted {
+        times: Cell::new(3),
+        answer: Ok(b'x'),
+    };
+    let mut into = [b'.'; 3];
+    assert_eq!(rt; read_retrying(&file, &mut into, 0)?, 3);
+    assert_eq!(rt; into, *b"xxx");
+    let file = Interrupted {
+        times: Cell::new(1),
+        answer: Err(ErrorKind::TimedOut),
+    };
+    assert!(rt; read_retrying(&file, &mut into, 0).is_err());
+    assert_eq!(rt; file.times.get(), 0);
+    Ok(())
+}
+
 #[test]
 fn the_named_one_of_two_files_is_read(rt: HostRuntime) -> Result<(), Fail> {
     let first = own_path(&rt, "first")?;
     let second = own_path(&rt, "second")?;
-    fs::write(&rt, first.as_str(), "first")?;
+    fs::write(&rt, first.as_str(), "first file")?;
     fs::write(&rt, second.as_str(), "0123456789")?;
     let mut dumps = FileDumps::new(&rt);
-    assert_eq!(rt; dumps.open_dump(&first)?, 5);
+    assert_eq!(rt; dumps.open_dump(&first)?, 10);
+    assert_eq!(rt; seven_at(&mut dumps, 2)?, *b"rst fil");
     assert_eq!(rt; dumps.open_dump(&second)?, 10);
     assert_eq!(rt; seven_at(&mut dumps, 2)?, *b"2345678");
     fs::remove_file(&rt, first.as_str())?;
@@ -56,13 +126,14 @@ fn a_file_that_was_cut_since_it_was_opened(rt: HostRuntime) -> Result<(), Fail> 
     Ok(())
 }
 
-// What a stream took, how many bytes it takes from now on, and how
-// often it was flushed. A test sees them while a sink holds the stream.
+// What a stream took, how many bytes it takes from now on, how often it was
+// flushed, and whether that succeeds. A test sees them while a sink holds the stream.
 #[derive(Drop)]
 struct Taken {
     bytes: RefCell<Vec<u8>>,
     room: Cell<usize>,
     flushes: Cell<usize>,
+    can_flush: Cell<bool>,
 }
 
 impl Taken {
@@ -71,6 +142,7 @@ impl Taken {
             bytes: RefCell::new(Vec::new(alloc)),
             room: Cell::new(room),
             flushes: Cell::new(0),
+            can_flush: Cell::new(true),
         }
     }
 }
@@ -97,7 +169,10 @@ impl Write for Narrow<'_> {
         self.taken
             .flushes
             .set(self.taken.flushes.get().wrapping_add(1));
-        Ok(())
+        if self.taken.can_flush.get() {
+            return Ok(());
+        }
+        Err(ErrorKind::StorageFull.into())
     }
 }
 
@@ -130,6 +205,29 @@ fn a_stream_gets_what_was_gathered_until_it_fails(rt: HostRuntime) -> Result<(),
     assert!(rt; sink.flush().is_err());
     assert!(rt; sink.write(b"9").is_err());
     assert!(rt; took(&taken, b"01234567"));
+    Ok(())
+}
+
+#[test]
+fn a_flush_reaches_the_stream_if_nothing_is_buffered_and_its_failure_counts(
+    rt: HostRuntime,
+) -> Result<(), Fail> {
+    let taken = Taken::with_room(rt.alloc(), 8);
+    let narrow = Narrow {
+        taken: &taken,
+        step: 3,
+    };
+    let mut sink = StdSink::new(rt.alloc(), narrow)?;
+    sink.flush()?;
+    assert_eq!(rt; taken.flushes.get(), 1);
+    write_all(&mut sink, b"0123")?;
+    taken.can_flush.set(false);
+    assert!(rt; sink.flush().is_err());
+    assert!(rt; took(&taken, b"0123"));
+    // The stream could be flushed again, but it failed once.
+    taken.can_flush.set(true);
+    assert!(rt; sink.flush().is_err());
+    assert_eq!(rt; taken.flushes.get(), 2);
     Ok(())
 }
 

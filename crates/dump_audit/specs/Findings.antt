@@ -26,7 +26,7 @@ pub record Audit : Type 0 where
   pub limit : ℕ
   pub mails : Option (List (Option ℕ))
 
--- these as one value
+-- what is audited, as one value
 abbrev pub audit_of : Contents → List Process → ℕ → Option (List (Option ℕ)) → Audit
 audit_of index processes limit mails = record { index = index; processes = processes; limit = limit; mails = mails }
 
@@ -46,8 +46,8 @@ is_whole (TruncatedIn last) = false
 abbrev pub is_dumped : Contents → Process → Bool
 is_dumped index process = not (is_cut (dump_state index.headers) process.section)
 
--- its entries are judged by its partners', and theirs by its own: it
--- is dumped, it is of the dumped node, and its link list isn't unread
+-- the entries of a process are judged by its partners', and theirs by its
+-- own: it is dumped, it is of the dumped node, and its link list isn't unread
 abbrev pub is_judged : Contents → Process → Bool
 is_judged index process = is_dumped index process && is_local process.pid && not (links_of process.links).unread
 
@@ -161,6 +161,6 @@ process_findings a (p, process) =
 abbrev pub findings : Audit → List Finding
 findings a = flat_map (process_findings a) (enumerate_from 0 a.processes)
 
--- those of the audit of a process table
+-- the findings of the audit of a process table
 abbrev pub findings_in : Contents → ProcessTable → ℕ → Option (List (Option ℕ)) → List Finding
 findings_in index table limit mails = findings (audit_of index table.processes limit mails)

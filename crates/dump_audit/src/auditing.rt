@@ -193,9 +193,9 @@ pub fn audit(
     audit_with(alloc, index, procs, graph, limit, None)
 }
 
-/// The same with two more kinds of findings: in a whole dump, the links and monitors with processes of
-/// the dumped node that aren't in it; and the stated lengths of message queues that aren't the numbers of
-/// their messages. `mails` has that number for each process of the table, in its order, if it is known.
+/// All findings of [`audit`], and two more kinds of findings: in a whole dump, the links and monitors with
+/// processes of the dumped node that aren't in it; and the stated lengths of message queues that aren't the
+/// numbers of their messages. `mails` has that number for each process of the table, in its order, if it is known.
 pub fn audit_full(
     alloc: Global,
     index: &Index,

@@ -13,7 +13,8 @@ pub enum Finding {
         at: u64,
         other: u64,
     },
-    /// `p` monitors `q`, and `q` isn't monitored by `p` under the same reference. `at` and `other` are as above.
+    /// `p` monitors `q`, and `q` isn't monitored by `p` under the same reference.
+    /// `at` is the offset of the entry, and `other` that of the section of `q`.
     MonitorTo {
         p: u32,
         q: u32,
@@ -21,8 +22,8 @@ pub enum Finding {
         at: u64,
         other: u64,
     },
-    /// `p` is monitored by `q`, and `q` monitors neither `p` nor a
-    /// name under the same reference. `at` and `other` are as above.
+    /// `p` is monitored by `q`, and `q` monitors neither `p` nor a name under the same
+    /// reference. `at` is the offset of the entry, and `other` that of the section of `q`.
     MonitorFrom {
         p: u32,
         q: u32,
@@ -30,35 +31,37 @@ pub enum Finding {
         at: u64,
         other: u64,
     },
-    /// The stated length of the message queue of `p` is above the limit. `at` is the
-    /// offset of the field's line, and `other` that of the section of `p`, here and below.
+    /// The stated length of the message queue of `p` is above the limit. `at` is
+    /// the offset of the field's line, and `other` that of the section of `p`.
     Mailbox {
         p: u32,
         count: u64,
         at: u64,
         other: u64,
     },
-    /// The link list of `p` isn't a list.
+    /// The link list of `p` isn't a list. `at` is the offset of the field's line, and `other` that of the section of `p`.
     UnreadLinks {
         p: u32,
         at: u64,
         other: u64,
     },
-    /// The stated length of the message queue of `p` isn't a number.
+    /// The stated length of the message queue of `p` isn't a number. `at` is
+    /// the offset of the field's line, and `other` that of the section of `p`.
     UnreadQueue {
         p: u32,
         at: u64,
         other: u64,
     },
-    /// `p` has a link to a process of the dumped node that isn't in the
-    /// dump. `at` is the offset of the entry, here and in the next two.
+    /// `p` has a link to a process of the dumped node that isn't in the dump.
+    /// `at` is the offset of the entry, and `other` that of the section of `p`.
     LinkGone {
         p: u32,
         entry: u32,
         at: u64,
         other: u64,
     },
-    /// `p` monitors a process of the dumped node that isn't in the dump.
+    /// `p` monitors a process of the dumped node that isn't in the dump. `at`
+    /// is the offset of the entry, and `other` that of the section of `p`.
     ToGone {
         p: u32,
         entry: u32,
@@ -66,14 +69,15 @@ pub enum Finding {
         other: u64,
     },
     /// `p` is monitored by a process of the dumped node that isn't in the dump.
+    /// `at` is the offset of the entry, and `other` that of the section of `p`.
     FromGone {
         p: u32,
         entry: u32,
         at: u64,
         other: u64,
     },
-    /// The stated length of the message queue of `p` isn't the number
-    /// of its messages. `at` is the offset of the field's line.
+    /// The stated length of the message queue of `p` isn't the number of its messages.
+    /// `at` is the offset of the field's line, and `other` that of the section of `p`.
     QueueCount {
         p: u32,
         stated: u64,

@@ -6,6 +6,6 @@ use Rattle.dump_io.specs.declared.count.Count.{Count}
 abbrev pub number_in : Count → ℕ
 number_in count = count.number
 
--- that number has 64 bits
+-- the number of a count has 64 bits
 pub number_in-small : (count : Count) → number_in count < 2 ^ 64
 number_in-small count = count.small

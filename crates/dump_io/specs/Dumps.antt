@@ -63,7 +63,7 @@ pub record DeviceState : Type 0 where
   pub now : Now
   -- how often the device has failed
   pub faults : ℕ
-  -- how many bytes it has given
+  -- how many bytes the device has given
   pub taken : ℕ
 
 -- the device's count of faults rose

@@ -17,7 +17,7 @@ IsCauseOf refusal before after (refuses why) = refusal ≡ Some why
 IsCauseOf refusal before after fails = (refusal ≡ None) × DeviceFailed before after
 IsCauseOf refusal before after lacks = Unit {0}
 
--- what such a fault says: nothing is refused
+-- what a fault of reading says: nothing is refused
 abbrev pub read_cause : ReadFault → Cause ⊥
 read_cause Read = fails
 read_cause Memory = lacks

@@ -15,7 +15,7 @@ name_of file = string_bytes file.name
 abbrev pub bytes_of : DumpFile → List ℕ
 bytes_of file = file.bytes.items
 
--- the files by name: of two with the same name the first counts
+-- the files by name: of two files with the same name the first counts
 abbrev pub find_file : List DumpFile → Files
 find_file [] name = None
 find_file (file ∷ files) name = if bytes_eq (name_of file) name then Some (bytes_of file) else find_file files name

@@ -13,7 +13,7 @@ pub record MemState : Type 0 where
   pub fails : List ℕ
   -- how many writes were made
   pub writes : ℕ
-  -- how many of them found no memory
+  -- how many of the writes found no memory
   pub lacked : ℕ
   -- how often the sink has failed
   pub faults : ℕ

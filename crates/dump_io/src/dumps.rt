@@ -44,6 +44,6 @@ pub trait Dumps {
     /// A size is a number of 64 bits.
     ghost small_size: { (d : Self) → size_of (state d).now < 2 ^ 64 };
 
-    /// So is the count of bytes.
+    /// The count of bytes taken is a number of 64 bits.
     ghost small_taken: { (d : Self) → (state d).taken < 2 ^ 64 };
 }

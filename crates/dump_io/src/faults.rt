@@ -6,7 +6,8 @@ use std::alloc::AllocError;
 pub enum ReadFault {
     /// The device failed.
     Read,
-    /// There was no memory.
+    /// There was no memory, or more is needed than a call can hold, such as a heap of more
+    /// than 2^32 - 2 cells and elements. The calls for which the second can be so say it.
     Memory,
 }
 

@@ -63,7 +63,7 @@ impl HexText {
         HexText { digits, from }
     }
 
-    /// Its bytes.
+    /// The bytes of the text.
     pub fn bytes(&self) -> &[u8]
         ensures { result.now ≡ self.now }
     {

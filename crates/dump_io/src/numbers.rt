@@ -75,7 +75,7 @@ fn hex_value(c: u8) -> u64
     u64::from(HEX_VALUES[c as usize])
 }
 
-// As many bytes as a hex number may have.
+// The first bytes of a text, as many as a hex number may have.
 fn longest_front(text: &[u8]) -> &[u8]
     ensures { result.now ≡ take 16 text.now }
 {

@@ -11,23 +11,23 @@ use Rattle.dump_redact.specs.Bodies.{body_lines, redacted_body}
 use Rattle.heap_cells.specs.Loading.{enc_of}
 use Rattle.dump_redact.specs.Redacted.{redacted, part_of}
 
--- it has as many bytes
+-- a redacted dump has as many bytes as the dump
 abbrev pub KeepsLength : Type 0
 KeepsLength = (bytes : List ℕ) → length (redacted bytes) ≡ length bytes
 
--- it has the same sections
+-- a redacted dump has the same sections
 abbrev pub KeepsSections : Type 0
 KeepsSections = (bytes : List ℕ) → sections (redacted bytes) ≡ sections bytes
 
--- it is whole, or truncated, as before
+-- a redacted dump is whole, or truncated, as the dump is
 abbrev pub KeepsState : Type 0
 KeepsState = (bytes : List ℕ) → dump_state (headers (redacted bytes)) ≡ dump_state (headers bytes)
 
--- its index is the same
+-- the index of a redacted dump is that of the dump
 abbrev pub KeepsIndex : Type 0
 KeepsIndex = (bytes : List ℕ) → index_of (redacted bytes) ≡ index_of bytes
 
--- redacting it again leaves it as it is
+-- redacting a redacted dump again leaves it as it is
 abbrev pub StaysRedacted : Type 0
 StaysRedacted = (bytes : List ℕ) → redacted (redacted bytes) ≡ redacted bytes
 

@@ -9,7 +9,7 @@ use Rattle.term_forms.specs.Words.{led_of}
 use Rattle.dump_redact.specs.declared.parts.Part.TheVariants.{Heap}
 use Rattle.dump_redact.specs.Redacted.{blank, blanked_line}
 
--- blank characters write as many bytes
+-- characters made blank write as many bytes as before
 abbrev pub KeepsPayloads : Enc → Type 0
 KeepsPayloads enc = (chars : List ℕ) (size : ℕ) → IsPayloadOf enc chars size → IsPayloadOf enc (map (blank enc) chars) size
 

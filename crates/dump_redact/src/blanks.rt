@@ -15,9 +15,9 @@ const BLOCK: usize = 64;
 // How bytes are copied.
 #[derive(Clone, Copy)]
 pub(crate) enum Stretch {
-    // As they are.
+    // Bytes are copied as they are.
     Plain,
-    // Made blank up to the end of the line.
+    // Bytes are made blank up to the end of the line.
     Payload(Enc),
 }
 
@@ -121,8 +121,8 @@ fn blank_upto_lf(chars: &mut [u8], enc: Enc) -> Stretch
     }
 }
 
-// Does the same in less time: nearly all characters of a payload are digits,
-// and none of these is an LF, so that it is only searched for behind them.
+// Makes characters blank up to the first LF, in less time than `blank_upto_lf`: nearly all characters
+// of a payload are digits, and none of these is an LF, so that it is only searched for behind them.
 fn blank_line(chars: &mut [u8], enc: Enc) -> Stretch
     ensures text { chars.new ≡ copied (Stretch.Payload enc) chars.old }
     ensures behind { result ≡ stretch_behind (Stretch.Payload enc) chars.old }

@@ -76,8 +76,8 @@ fn letter_from(bytes: &[u8], at: usize) -> usize
     }
 }
 
-// Does the same where the letter may well be near: it looks at the first
-// few bytes one by one, which takes less time than to begin a search.
+// Where the first `Y` from a place on stands; if there is none, the length. Where the letter may well
+// be near, this takes less time than to begin a search: the first few bytes are looked at one by one.
 fn near_letter_from(bytes: &[u8], at: usize) -> usize
     requires { at ≤ length bytes.now }
     ensures within { result ≤ length bytes.now }

@@ -39,7 +39,7 @@ body_start found = option_map_or (λ s. s.body) found 0
 abbrev pub body_size : Option Section → ℕ
 body_size found = option_map_or body_length found 0
 
--- that body in the bytes of a dump
+-- the body of a section that may be missing in the bytes of a dump; a missing section counts as empty
 abbrev pub body_in : List ℕ → Option Section → List ℕ
 body_in dump found = option_map_or (body_of dump) found []
 

@@ -59,12 +59,12 @@ first-last : (tag : List ℕ) (before : List Section) (s : Section) (id : List �
     → first_named tag (before ++ s ∷ []) id ≡ option_or (first_named tag before id) (if is_named tag (Some id) s.text then Some (length before) else None)
 first-last tag before s id = position-last (λ (section : Section). is_named tag (Some id) section.text) before s
 
--- without the tag, or without an id, it is passed over
+-- a section without the tag, or without an id, is passed over
 pub first-passed : (tag : List ℕ) (before : List Section) (s : Section) (id : List ℕ) → (if has_tag tag s.text then id_of s.text else None) ≡ None
     → first_named tag (before ++ s ∷ []) id ≡ first_named tag before id
 first-passed tag before s id none = grind (arith, first-last, none-named, or-none)
 
--- with both, it is the first with its id, unless one before it is
+-- a section with the tag and an id is the first with its id, unless one before it is
 pub first-more : (tag : List ℕ) (before : List Section) (s : Section) (here id : List ℕ) → (if has_tag tag s.text then id_of s.text else None) ≡ Some here
     → first_named tag (before ++ s ∷ []) id ≡ option_or (first_named tag before id) (if bytes_eq here id then Some (length before) else None)
 first-more tag before s here id some = grind (arith, first-last, some-named)

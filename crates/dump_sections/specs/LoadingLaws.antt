@@ -23,11 +23,11 @@ large-append limit (s ∷ xs) ys =
 pub small-both : (limit : ℕ) (xs ys : List Section) → large_fault limit (xs ++ ys) ≡ None → (large_fault limit xs ≡ None) × (large_fault limit ys ≡ None)
 small-both limit xs ys none = both-none (large_fault limit xs) (large_fault limit ys) (sym (large-append limit xs ys) ∙ none)
 
--- one of the first list that is too large is the first of both
+-- where the first of two lists has a body that is too large, the refusal is that of both lists
 pub large-first : (limit : ℕ) (xs ys : List Section) → is_some (large_fault limit xs) ≡ true → large_fault limit xs ≡ large_fault limit (xs ++ ys)
 large-first limit xs ys some = sym (large-append limit xs ys ∙ or-some (large_fault limit xs) (large_fault limit ys) some)
 
--- where there is none, it is that of the second list
+-- where the first of two lists has no body that is too large, the refusal of the second is that of both lists
 pub large-second : (limit : ℕ) (xs ys : List Section) → is_some (large_fault limit xs) ≡ false → large_fault limit ys ≡ large_fault limit (xs ++ ys)
 large-second limit xs ys none = sym (large-append limit xs ys ∙ or-second (large_fault limit xs) (large_fault limit ys) none)
 
@@ -44,14 +44,14 @@ All-small limit (s ∷ sections) none = by (nat_lt limit (body_length s)) refl (
     by true is rest = let large = is_first true is in absurd (let no : ⊥ = cc (large) in no)
     by false is rest = All-cons (λ s. body_length s ≤ limit) s sections (ltb-false _ _ is) (rest (is_first false is))
 
--- the causes of a fault where no body is too large
+-- where no body is too large, a fault of judging and reading the bodies is one of reading alone
 pub IsUnloaded-small : (limit : ℕ) (sections : List Section) (before after : DeviceState) (fault : BodyFault) → large_fault limit sections ≡ None
     → AreRefused sections limit before after fault → IsUnloaded before after fault
 IsUnloaded-small limit sections before after Read none cause = (refl, cause.1)
 IsUnloaded-small limit sections before after Memory none cause = tt
 IsUnloaded-small limit sections before after (SectionTooLarge at len) none cause = absurd (let no : ⊥ = cc (none, cause) in no)
 
--- they are the causes for those bodies
+-- where no body is too large, a fault of reading alone is one of judging and reading the bodies
 pub AreRefused-unread : (limit : ℕ) (sections : List Section) (before after : DeviceState) (fault : BodyFault) → large_fault limit sections ≡ None
     → IsUnloaded before after fault → AreRefused sections limit before after fault
 AreRefused-unread limit sections before after Read none cause = (none, cause.1)

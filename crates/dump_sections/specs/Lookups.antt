@@ -9,11 +9,11 @@ use Rattle.dump_sections.specs.Sections.{Section, tag_of, id_of}
 abbrev pub has_tag : List ℕ → List ℕ → Bool
 has_tag tag text = bytes_eq (tag_of text) tag
 
--- whether it has exactly this tag and id, where having no id matches only having none
+-- whether a header's text has exactly this tag and id, where having no id matches only having none
 abbrev pub is_named : List ℕ → Option (List ℕ) → List ℕ → Bool
 is_named tag id text = has_tag tag text && option_eq bytes_eq (id_of text) id
 
--- whether it has this tag and an id that is this number in hex
+-- whether a header's text has this tag and an id that is this number in hex
 abbrev pub has_hex : List ℕ → ℕ → List ℕ → Bool
 has_hex tag n text = has_tag tag text && option_eq nat_eq (option_and_then hex_number (id_of text)) (Some n)
 

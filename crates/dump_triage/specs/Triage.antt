@@ -65,7 +65,7 @@ words_in row = stated_number (cell_at row 4)
 abbrev pub largest_tables : ℕ → List Row → List Ranked
 largest_tables most rows = largest most (λ item. words_in item.1) rows
 
--- ---- all of it
+-- ---- all that stands out
 
 -- what stands out: rows of places of processes and of tables, and numbers of findings
 pub record Triaged : Type 0 where

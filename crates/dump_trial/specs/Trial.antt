@@ -42,7 +42,7 @@ process_roots bytes pid =
 abbrev pub tally_in : List Cell → List BodyRoot → Tally
 tally_in cells roots = record { roots = length roots; bad = bad_roots cells judged_nodes roots }
 
--- the same for the roots of a pid
+-- how many roots a pid has, and how many of them are bad over the cells of its heap
 abbrev pub process_tally : List ℕ → List ℕ → Tally
 process_tally bytes pid = tally_in (heap_map pid bytes).cells (process_roots bytes pid)
 
@@ -66,6 +66,6 @@ summary_of bytes =
       findings = length (findings (audit_of (index_of bytes) processes queue_limit None));
     }
 
--- what it reports on the dump that is made from a seed and a count of processes
+-- what a trial reports on the dump that is made from a seed and a count of processes
 abbrev pub trial_of : ℕ → ℕ → Summary
 trial_of seed count = summary_of (made seed count)

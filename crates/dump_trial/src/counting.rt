@@ -13,7 +13,7 @@ use root_views::RootKind;
 use std::alloc::{AllocError, Global};
 use term_unfold::Walker;
 
-// How many of its nodes a root is judged by.
+// How many of the nodes of a root are judged.
 const JUDGED_NODES: u32 = 1_000;
 
 fn plus(a: Tally, b: Tally) -> Tally

@@ -12,7 +12,7 @@ use term_unfold::{Verdict, Walker};
 pub struct Tally {
     /// The number of roots.
     pub roots: u64,
-    /// How many of them are bad.
+    /// How many of the roots are bad.
     pub bad: u64,
 }
 

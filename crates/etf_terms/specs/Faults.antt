@@ -5,7 +5,8 @@ use Rattle.etf_terms.specs.declared.ext.ExtFault.TheVariants as faults
 use Rattle.etf_terms.specs.Terms.{Term, IsExternal}
 use Rattle.etf_terms.specs.Place.{IsPlace}
 
--- they aren't 131 and one term, and cease to begin one at this place; memory is lacking only if they are
+-- what a fault says of bytes: they aren't 131 and one term, and cease
+-- to begin one at this place; or they are, and memory is lacking
 abbrev pub IsFault : ExtFault → List ℕ → Type 0
 IsFault (faults.Bad at) bytes = ((term : Term) → IsExternal bytes term → ⊥) × IsPlace bytes at
 IsFault faults.Memory bytes = (term : Term) × IsExternal bytes term

@@ -3,7 +3,7 @@ use Rattle.std.specs.Prelude.{◌≡◌, ℕ, suc, List}
 use Rattle.etf_terms.specs.Depth.{depth}
 use Rattle.etf_terms.specs.Terms.{Term, IsExternal}
 
--- its bytes, and how many entries of a stack were reserved for writing it
+-- a term that was read: its bytes, and how many entries of a stack were reserved for writing it
 pub record Held : Type 0 where
   pub bytes : List ℕ
   pub room : ℕ

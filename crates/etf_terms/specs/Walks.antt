@@ -15,14 +15,14 @@ abbrev pub done_or : ℕ → List ℕ → (ℕ → Walked) → Walked
 done_or zero bytes next = Done bytes
 done_or (suc n) bytes next = next n
 
--- the rest of a head, and this many terms after those of the head
+-- what a walk finds that goes on with the rest of a head and then with this many terms after those of the head
 abbrev pub walk : Layout → ℕ → List ℕ → Walked
 walk (end head) n [] = done_or (kids head + n) [] (λ m. Lost [])
 walk (end head) n (b ∷ bytes) = done_or (kids head + n) (b ∷ bytes) (λ m. if is_tag b then walk (row b) m bytes else Lost (b ∷ bytes))
 walk (byte test next) n [] = Lost []
 walk (byte test next) n (b ∷ bytes) = if test b then walk (next b) n bytes else Lost (b ∷ bytes)
 
--- this many terms
+-- what a walk over this many terms finds
 abbrev pub walk_terms : ℕ → List ℕ → Walked
 walk_terms n bytes = done_or n bytes (λ m. walk head_layout m bytes)
 

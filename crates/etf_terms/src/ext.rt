@@ -20,7 +20,7 @@ use std::marker::Model;
 /// Why bytes aren't read.
 #[derive(Drop)]
 pub enum ExtFault {
-    /// They aren't 131 and one term; `at` is the length of their longest prefix that begins some 131 and term.
+    /// The bytes aren't 131 and one term; `at` is the length of their longest prefix that begins some 131 and term.
     Bad { at: u64 },
     /// There was no memory for the stack.
     Memory,

@@ -458,7 +458,7 @@ pub(crate) fn read_head(bytes: &[u8]) -> Result<(HeadRead<'_>, &[u8]), usize>
 }
 
 impl<'a> HeadRead<'a> {
-    /// How many terms follow it.
+    /// How many terms follow the head.
     pub fn kids(&self) -> u64
         ensures value { result ≡ kids (head self.now) }
         ensures few { result ≤ 2 ^ 33 }

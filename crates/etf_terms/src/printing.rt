@@ -367,7 +367,7 @@ fn put_placed<K: Sink>(sink: &mut K, front: &[u8], found: &HeadRead<'_>) -> Resu
     put_opening(sink, found)
 }
 
-// A head, as that of the next term of another.
+// Writes a head as the next of the terms of an entry.
 fn put_own<K: Sink>(sink: &mut K, entry: Entry, found: &HeadRead<'_>) -> Result<(), Failed>
     requires { entry.next < entry.kids }
     ensures { Puts (K.state sink.old) (K.state sink.new) (own_of entry (head found.now)) result }
@@ -394,7 +394,7 @@ fn end_text(found: &HeadRead<'_>) -> &'static [u8]
     }
 }
 
-// A head, as that of the next term of another, and what closes it if it has no terms.
+// Writes a head as the next of the terms of an entry, and what closes it if it has no terms.
 fn put_begun<K: Sink>(sink: &mut K, entry: Entry, found: &HeadRead<'_>) -> Result<(), Failed>
     requires { entry.next < entry.kids }
     ensures { Puts (K.state sink.old) (K.state sink.new)

@@ -21,9 +21,9 @@ pub struct Line<'a> {
 pub struct FieldAt {
     /// Where the field's line begins.
     pub at: usize,
-    /// Where its value begins.
+    /// Where the field's value begins.
     pub from: usize,
-    /// Where its value ends.
+    /// Where the field's value ends.
     pub upto: usize,
 }
 

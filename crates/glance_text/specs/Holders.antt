@@ -38,7 +38,7 @@ unstored_line lines = line_of word_space (codes "unstored" ∷ decimal lines.uns
 abbrev pub stated_bytes : List ℕ → Option ℕ
 stated_bytes memory_body = option_and_then dec_number (find_value memory_body (codes "binary"))
 
--- the line of that number, if there is one
+-- the line of this number of bytes, which the binaries of the node took, if the dump states it
 abbrev pub stated_line : Option ℕ → List ℕ
 stated_line None = []
 stated_line (Some bytes) = line_of word_space (codes "memory" ∷ decimal bytes ∷ [])

@@ -40,7 +40,7 @@ first_cells seen (cell ∷ cells) =
 abbrev pub cells_of : Enc → List ℕ → List ℕ → List Cell
 cells_of enc heap literals = first_cells [] (line_cells enc heap ++ line_cells enc literals)
 
--- how many of them come from the heap's own body
+-- how many of a heap's cells come from its own body
 abbrev pub own_count : Enc → List ℕ → ℕ
 own_count enc heap = length (first_cells [] (line_cells enc heap))
 

@@ -38,11 +38,11 @@ literals_section sections = first_tagged (codes "literals") sections
 abbrev pub two_bodies : Option Section → Option Section → List Section
 two_bodies heap literals = option_to_list heap ++ option_to_list literals
 
--- those of the process with this pid
+-- the sections with the heap of the process with this pid and with the literals, as they are judged
 abbrev pub heap_bodies : List ℕ → List Section → List Section
 heap_bodies pid sections = two_bodies (heap_section pid sections) (literals_section sections)
 
--- those at two places of an index
+-- the sections with a heap and with the literals at two places of an index, as they are judged
 abbrev pub bodies_at : Contents → Option ℕ → Option ℕ → List Section
 bodies_at index heap literals = two_bodies (section_in index heap) (section_in index literals)
 
@@ -73,13 +73,13 @@ pub record IsHeapOf (now : Now) (index : Contents) (heap literals : Option Secti
   pub enc : IfOk answer (λ found. found.enc ≡ enc_of index.version)
   pub told : IfTold now (λ dump. IsHeapAnswerFor (enc_of index.version) (body_in dump heap) (body_in dump literals) dense answer)
 
--- what it says of the heap of the process with this pid
+-- what an answer says of the heap of the process with this pid
 abbrev pub IsHeapFor : Now → Contents → List ℕ → ℕ → Result HeapMap HeapFault → Type 0
 IsHeapFor now index pid dense answer =
     let sections = sections_in index in
     IsHeapOf now index (heap_section pid sections) (literals_section sections) dense answer
 
--- what it says of the sections at two places of an index
+-- what an answer says of the heap in the sections at two places of an index
 abbrev pub IsHeapAt : Now → Contents → Option ℕ → Option ℕ → ℕ → Result HeapMap HeapFault → Type 0
 IsHeapAt now index heap literals dense answer =
     IsHeapOf now index (section_in index heap) (section_in index literals) dense answer

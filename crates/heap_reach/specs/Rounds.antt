@@ -26,6 +26,6 @@ reached_by cells roots n = reached_from (graph_of cells) (is_referred cells root
 abbrev pub IsReachOf : Reaching → List Element → Type 0
 IsReachOf reach roots = (n : ℕ) → is_in reach.marks n ≡ reached_by reach.heap.cells roots n
 
--- to what some elements reach, that of these further ones was added
+-- what these further elements reach was added to what some elements reach
 abbrev pub AddsRoots : Reaching → Reaching → List Element → Type 0
 AddsRoots before after more = (roots : List Element) → IsReachOf before roots → IsReachOf after (roots ++ more)

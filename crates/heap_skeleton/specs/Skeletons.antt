@@ -53,7 +53,7 @@ skeleton_of heap lines = record {
 abbrev pub heap_in : List ℕ → Contents → Option Section → Option Section → HeapMap
 heap_in dump index heap literals = heap_with (enc_of index.version) (body_in dump heap) (body_in dump literals)
 
--- its skeleton
+-- the skeleton of the heap in two sections of a dump
 abbrev pub skeleton_in : List ℕ → Contents → Option Section → Option Section → SkeletonMap
 skeleton_in dump index heap literals = skeleton_of (heap_in dump index heap literals) (lines_in dump heap literals)
 
@@ -68,6 +68,6 @@ abbrev pub is_tuple_kind : Option Kind → Bool
 is_tuple_kind (Some kind.Tuple) = true
 is_tuple_kind other = false
 
--- whether the cell with a number is one
+-- whether the cell with a number is a tuple
 abbrev pub is_tuple : SkeletonMap → ℕ → Bool
 is_tuple s cell = is_tuple_kind (slice_index_or s.kinds cell None)

@@ -13,13 +13,13 @@ const MOST: usize = u32::MAX as usize - 1;
 /// A cell of a skeleton, without its kind.
 #[derive(Clone, Copy)]
 pub(crate) struct CellPart {
-    /// The address.
+    /// The address of the cell.
     pub address: u64,
-    /// The offset in the file at which its line begins.
+    /// The offset in the file at which the cell's line begins.
     pub line: u64,
-    /// The place of its first element among those of all cells. They end where those of the next cell begin.
+    /// The place of the cell's first element among those of all cells. Its elements end where those of the next cell begin.
     pub first: u32,
-    /// The number of its words.
+    /// The number of the cell's words.
     pub words: u32,
 }
 

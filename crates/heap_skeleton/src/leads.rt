@@ -28,7 +28,7 @@ pub(crate) enum Lead {
 pub(crate) struct Leads {
     /// For each element whether it has an address, and which kind of cell it leads to.
     pub marks: Vec<u32>,
-    /// The addresses of those that have one.
+    /// The addresses of those elements that have one.
     pub references: Vec<u64>,
 }
 

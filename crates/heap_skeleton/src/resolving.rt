@@ -1,15 +1,17 @@
-// Resolving the addresses of elements to the cells to which they lead.
-ghost use Rattle.std.specs.Prelude.{◌≡◌, ◌<◌, List, None, length, map, slice_index_or};
-ghost use Rattle.cell_records.specs.Order.{AreAllFirst, AreRanked};
+// The numbers of the cells to which elements lead.
+ghost use Rattle.std.specs.Prelude.{◌≡◌, ◌<◌, ◌^◌, List, None, length, map, slice_index_or, slice_set, OnOk, IfOk};
+ghost use Rattle.cell_records.specs.Order.{AreAllFirst, AreRanked, IsRanking};
 ghost use Rattle.heap_skeleton.specs.declared.leads.Lead.{Lead};
 ghost use Rattle.heap_skeleton.specs.Inner.Held.{addresses_of};
 ghost use Rattle.heap_skeleton.specs.Inner.Leads.{marks, references};
-ghost use Rattle.heap_skeleton.specs.Inner.Resolving.{HasAddress, ResolvesNext};
-ghost use Rattle.heap_skeleton.specs.Inner.Targets.{is_bin, resolved};
+ghost use Rattle.heap_skeleton.specs.Inner.Resolving.{no_far, AreNearResolved, IsFarSettled, ResolvesNext};
+ghost use Rattle.heap_skeleton.specs.Inner.Targets.{is_bin, number_for, resolved};
 
+use crate::far::Far;
 use crate::held::CellPart;
 use crate::leads::{BINARY, NOWHERE};
-use cell_records::{Kind, Ranks, number_near};
+use cell_records::{Kind, Near, Ranks, Search};
+use std::alloc::{AllocError, Global};
 
 // Whether the cell with a number is a heap binary.
 fn is_bin(kinds: &[Option<Kind>], number: u32) -> bool
@@ -21,74 +23,140 @@ fn is_bin(kinds: &[Option<Kind>], number: u32) -> bool
     }
 }
 
-// The cell to which an element with this mark and this address leads. `near` becomes the number behind that of the cell found.
-fn resolve_one(
-    ranks: &Ranks,
-    parts: &[CellPart],
-    kinds: &[Option<Kind>],
-    near: &mut u32,
-    mark: u32,
-    address: u64,
-) -> u32
-    requires ranked { AreRanked (addresses_of parts.now) ranks.now }
-    requires distinct { AreAllFirst (addresses_of parts.now) }
-    ensures { (l : Lead) → HasAddress l mark address → result ≡ resolved (addresses_of parts.now) kinds.now l }
+// The number that stands for the cell that was found, which may have to be a heap binary.
+fn number_for(kinds: &[Option<Kind>], to_binary: bool, found: Option<u32>) -> u32
+    ensures { result ≡ number_for kinds.now to_binary found }
 {
-    let Some(number) = number_near(ranks, parts, *near, address) else {
+    let Some(number) = found else {
         return NOWHERE;
     };
-    *near = number + 1;
-    if mark == BINARY && !is_bin(kinds, number) {
+    if to_binary && !is_bin(kinds, number) {
         return NOWHERE;
     }
     number
 }
 
-// Makes of the mark of the element at a place the number of the cell to which it leads, given the
-// addresses of the elements from there on. Returns those of the elements behind it.
+// Makes of the mark of the element at a place the number of the cell to which it leads, if that is easily told; otherwise
+// the element is far. Given are the addresses of the elements from there on; returns those of the elements behind it.
 fn resolve_next<'a>(
-    marks: &mut [u32],
+    alloc: Global,
+    numbers: &mut [u32],
     i: usize,
     references: &'a [u64],
     ranks: &Ranks,
     parts: &[CellPart],
     kinds: &[Option<Kind>],
-    near: &mut u32,
-) -> Option<&'a [u64]>
-    requires place { i < length marks.old }
+    near: &mut Near,
+    far: &mut Far,
+) -> Result<Option<&'a [u64]>, AllocError>
+    requires place { i < length numbers.old }
+    requires few { length numbers.old < 2 ^ 32 }
     requires ranked { AreRanked (addresses_of parts.now) ranks.now }
     requires distinct { AreAllFirst (addresses_of parts.now) }
-    ensures { ResolvesNext (addresses_of parts.now) kinds.now i marks.old references.now marks.new result }
+    ensures { IfOk result (ResolvesNext (addresses_of parts.now) kinds.now i
+        numbers.old references.now far.old numbers.new far.new) }
 {
-    let mark = marks[i];
+    let mark = numbers[i];
     if mark == NOWHERE {
-        return Some(references);
+        return Ok(Some(references));
     }
-    let (address, behind) = references.split_first()?;
-    marks[i] = resolve_one(ranks, parts, kinds, near, mark, *address);
-    Some(behind)
+    let Some((address, behind)) = references.split_first() else {
+        return Ok(None);
+    };
+    let to_binary = mark == BINARY;
+    let Some(number) = near.find(ranks, parts, *address) else {
+        far.push(alloc, to_binary, *address, i as u32)?;
+        return Ok(Some(behind));
+    };
+    numbers[i] = number_for(kinds, to_binary, Some(number));
+    Ok(Some(behind))
 }
 
-// Makes of the mark of each element the number of the cell to which it leads, given the addresses of those that have one.
-// Mostly an element leads to the cell behind the one to which the element before it led, which saves the search.
-pub(crate) fn resolve(
+// Resolves the elements whose cells are easily told, given the addresses of those that have one. The others are far.
+fn resolve_near(
+    alloc: Global,
     numbers: &mut [u32],
     addresses: &[u64],
     ranks: &Ranks,
     parts: &[CellPart],
     kinds: &[Option<Kind>],
-)
+    far: &mut Far,
+) -> Result<(), AllocError>
+    requires few { length numbers.old < 2 ^ 32 }
     requires ranked { AreRanked (addresses_of parts.now) ranks.now }
     requires distinct { AreAllFirst (addresses_of parts.now) }
-    ensures { (leads : List Lead) → numbers.old ≡ marks leads → addresses.now ≡ references leads
-        → numbers.new ≡ map (resolved (addresses_of parts.now) kinds.now) leads }
+    requires none { far.old ≡ no_far }
+    ensures { OnOk result ((leads : List Lead) → numbers.old ≡ marks leads → addresses.now ≡ references leads
+        → AreNearResolved (addresses_of parts.now) kinds.now leads (length leads) numbers.new far.new) }
 {
     let mut rest = addresses;
-    let mut near = 0;
+    let mut near = Near::new();
     for i in 0..numbers.len() {
-        let Some(behind) = resolve_next(numbers, i, rest, ranks, parts, kinds, &mut near) else {
-            return;
+        let next = resolve_next(alloc, numbers, i, rest, ranks, parts, kinds, &mut near, far)?;
+        let Some(behind) = next else {
+            return Ok(());
         };
         rest = behind;
     }
+    Ok(())
+}
+
+// Keeps a number for the element at a place, if there is one.
+fn put_number(numbers: &mut [u32], place: u32, number: u32)
+    ensures { numbers.new ≡ slice_set numbers.old place number }
+{
+    let place = place as usize;
+    if place < numbers.len() {
+        numbers[place] = number;
+    }
+}
+
+// Resolves elements that are far. If their addresses ascend, one pass finds the cells.
+fn settle_far(
+    numbers: &mut [u32],
+    far: &Ranks,
+    ranks: &Ranks,
+    kinds: &[Option<Kind>],
+    to_binary: bool,
+)
+    requires ranking { IsRanking ranks.now }
+    ensures count { length numbers.new ≡ length numbers.old }
+    ensures settled { IsFarSettled ranks.now kinds.now to_binary far.now numbers.old numbers.new (length far.now) }
+{
+    let mut search = Search::new(ranks);
+    for k in 0..far.len() {
+        let (address, place) = far.get(k);
+        let found = search.find(address);
+        let number = number_for(kinds, to_binary, found);
+        put_number(numbers, place, number);
+    }
+}
+
+// Makes of the mark of each element the number of the cell to which it leads, given the addresses of those that have one.
+// Mostly an element leads to the cell behind the one to which the element before it led. The addresses of the others are sorted.
+pub(crate) fn resolve(
+    alloc: Global,
+    numbers: &mut [u32],
+    addresses: &[u64],
+    ranks: &Ranks,
+    parts: &[CellPart],
+    kinds: &[Option<Kind>],
+) -> Result<(), AllocError>
+    requires few { length numbers.old < 2 ^ 32 }
+    requires ranked { AreRanked (addresses_of parts.now) ranks.now }
+    requires distinct { AreAllFirst (addresses_of parts.now) }
+    ensures { OnOk result ((leads : List Lead) → numbers.old ≡ marks leads → addresses.now ≡ references leads
+        → numbers.new ≡ map (resolved (addresses_of parts.now) kinds.now) leads) }
+{
+    let mut far = Far::new(alloc, ranks, numbers.len())?;
+    resolve_near(alloc, numbers, addresses, ranks, parts, kinds, &mut far)?;
+    let Far {
+        mut cells,
+        mut binaries,
+    } = far;
+    cells.sort();
+    binaries.sort();
+    settle_far(numbers, &cells, ranks, kinds, false);
+    settle_far(numbers, &binaries, ranks, kinds, true);
+    Ok(())
 }

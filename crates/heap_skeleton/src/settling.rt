@@ -13,11 +13,11 @@ use std::alloc::{AllocError, Global};
 #[derive(Drop)]
 pub(crate) struct Settled {
     pub held: Held,
-    /// How many of them are the process's own. They come first.
+    /// How many of the lines are the process's own. They come first.
     pub own: u32,
 }
 
-/// Such heap lines, with their addresses in order.
+/// Heap lines of which no two have the same address, and their addresses in order.
 #[derive(Drop)]
 pub(crate) struct Ordered {
     pub settled: Settled,

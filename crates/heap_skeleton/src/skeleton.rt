@@ -77,22 +77,24 @@ fn span_of(parts: &[CellPart], leads: &[u32], cell: u32) -> (usize, usize)
 
 // The numbers of the cells to which elements lead.
 fn resolve_leads(
+    alloc: Global,
     leads: Leads,
     ranks: &Ranks,
     parts: &[CellPart],
     kinds: &[Option<Kind>],
-) -> Vec<u32>
+) -> Result<Vec<u32>, AllocError>
+    requires few { length leads.marks.items < 2 ^ 32 }
     requires ranked { AreRanked (addresses_of parts.now) ranks.now }
     requires distinct { AreAllFirst (addresses_of parts.now) }
-    ensures { AreResolved (addresses_of parts.now) kinds.now leads result.items }
+    ensures { IfOk result (λ numbers. AreResolved (addresses_of parts.now) kinds.now leads numbers.items) }
 {
     let Leads {
         mut marks,
         references,
     } = leads;
-    resolve(&mut marks, &references, ranks, parts, kinds);
+    resolve(alloc, &mut marks, &references, ranks, parts, kinds)?;
     marks.shrink_to_fit();
-    marks
+    Ok(marks)
 }
 
 // The skeleton of cells with different addresses. What the vectors have grown to hold beyond the cells and elements
@@ -114,7 +116,7 @@ fn skeleton_of(alloc: Global, ordered: Ordered) -> Result<Skeleton, AllocError>
         mut kinds,
         leads,
     } = held;
-    let numbers = resolve_leads(leads, &ranks, &parts, &kinds);
+    let numbers = resolve_leads(alloc, leads, &ranks, &parts, &kinds)?;
     parts.shrink_to_fit();
     kinds.shrink_to_fit();
     let order = ranks.numbers(alloc)?;
@@ -136,8 +138,9 @@ impl Skeleton {
     /// come from any allocation, and comes if there are more than 2^32 - 2 cells and elements, including those of
     /// repeated addresses, or a cell of 2^32 words or more. Whatever it returns, at most as many bytes are read
     /// as the two bodies have. Only meanwhile are needed: a buffer of at most twice the longest line and a piece, 8 bytes
-    /// for each element that is a reference, and 8 for each cell while the addresses are sorted, or 16 if they lie too
-    /// far apart; and if addresses are repeated, as much again as is kept.
+    /// for each element that is a reference, at most 16 more for each of these that leads elsewhere than to the cell behind
+    /// the one before, and 8 for each cell while the addresses are sorted; twice these 16 and 8 if addresses lie too far
+    /// apart; and if addresses are repeated, as much again as is kept.
     pub fn load<D: Dumps>(
         alloc: Global,
         dumps: &mut D,

@@ -6,8 +6,6 @@
 #[cfg(test)]
 mod binary_refs_calls;
 #[cfg(test)]
-mod cell_parts_calls;
-#[cfg(test)]
 mod dump_write_calls;
 #[cfg(test)]
 mod heap_cells_calls;

@@ -14,7 +14,7 @@ abbrev pub held_too : ℕ → Holder → Holder
 held_too part Nobody = Part part
 held_too part holder = Several
 
--- the same, if it comes there
+-- who holds a cell, if this is so, once a part has come to it, and otherwise as before
 abbrev pub held_if : Bool → ℕ → Holder → Holder
 held_if true part holder = held_too part holder
 held_if false part holder = holder
@@ -40,7 +40,7 @@ abbrev pub is_held : Holder → Bool
 is_held Nobody = false
 is_held holder = true
 
--- whether several hold it
+-- whether several parts hold a cell with this holder
 abbrev pub is_several : Holder → Bool
 is_several Several = true
 is_several holder = false

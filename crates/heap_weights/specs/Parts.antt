@@ -14,7 +14,7 @@ abbrev pub number_if : Bool → ℕ → List ℕ
 number_if true part = part ∷ []
 number_if false part = []
 
--- the numbers of the parts that reach the cell, given that of the first
+-- the numbers of the parts that reach the cell, given the number of the first part
 abbrev pub reaching_from : ℕ → Graph → List ℕ → ℕ → List ℕ
 reaching_from part graph [] n = []
 reaching_from part graph (root ∷ roots) n = number_if (reached_at graph root n) part ++ reaching_from (suc part) graph roots n

@@ -20,7 +20,7 @@ abbrev pub words_below : List ℕ → (ℕ → Bool) → ℕ → ℕ
 words_below words set zero = 0
 words_below words set (suc n) = words_below words set n + words_if (set n) (words_at words n)
 
--- those of the first n cells that are in a set
+-- how many of the first n cells are in a set, and how many words these have
 abbrev pub weight_below : List ℕ → (ℕ → Bool) → ℕ → Weight
 weight_below words set n = record { cells = count_below set n; words = words_below words set n }
 
@@ -40,13 +40,13 @@ weights_from part words holders n (suc count) =
 
 -- what so many parts hold of the first n cells
 pub record AreSharesFor (words : List ℕ) (holders : ℕ → Holder) (parts n : ℕ) (shares : Shares) : Type 0 where
-  -- each of them alone
+  -- what each of the parts alone holds
   pub alone : shares.alone.items ≡ weights_from 0 words holders n parts
-  -- two or more of them
+  -- what two or more of the parts hold
   pub shared : shares.shared ≡ weight_of words holders Several n
-  -- one of them or more
+  -- what one or more of the parts hold
   pub reached : shares.reached ≡ weight_below words (λ k. is_held (holders k)) n
-  -- and all that there is
+  -- all that there is, whoever holds it
   pub own : shares.own ≡ weight_below words (λ k. true) n
 
 -- what the parts with these roots hold of the first n cells

@@ -3,10 +3,10 @@
 /// Who holds a cell.
 #[derive(Clone, Copy)]
 pub enum Holder {
-    /// No part reaches it.
+    /// No part reaches the cell.
     Nobody,
-    /// Two or more parts reach it.
+    /// Two or more parts reach the cell.
     Several,
-    /// This part reaches it, and no other.
+    /// This part reaches the cell, and no other does.
     Part(u32),
 }

@@ -13,7 +13,7 @@ const NOBODY: u32 = 0;
 // The label of a cell that several parts hold.
 const SEVERAL: u32 = 1;
 
-// The label of the first part. That of a part is as much more as its number says.
+// The label of the first part. The label of each part is as much more as its number says.
 const FIRST: u32 = 2;
 
 // A label is one number, so that a cell needs four bytes.

@@ -1,5 +1,7 @@
 // The files of the machine.
-ghost use Rattle.std.specs.Prelude.{◌≡◌, ◌<◌, length, is_err};
+ghost use Rattle.std.specs.Prelude.{◌≡◌, ◌≢◌, ◌<◌, length, is_err, IfErr};
+ghost use Rattle.std.specs.Io.{ReadsAtMost};
+ghost use Rattle.std.specs.IoError.{error_kind};
 ghost use Rattle.dump_io.specs.Count.{number_in-small};
 ghost use Rattle.dump_io.specs.Counts.{risen_if};
 ghost use Rattle.dump_io.specs.Dumps.{closed, size_of, Opens, ReadsSome};
@@ -7,7 +9,27 @@ ghost use Rattle.host_devices.specs.Devices.{faults_of, now_of, state_of, now_in
 
 use dump_io::{Count, Dumps, Failed};
 use std::fs::{self, File, OpenFile};
+use std::io::{self, ErrorKind};
 use std::os::unix::fs::FileExt;
+
+/// Reads from a file once, at an offset, and again as often as a signal interrupts the read, as std does with writes.
+/// Returns the file's error, or `TimedOut` after 2^64 - 1 reads that were interrupted.
+pub fn read_retrying<F: FileExt>(file: &F, into: &mut [u8], at: u64) -> io::Result<usize>
+    ensures bound { ReadsAtMost result into.new }
+    ensures retried { IfErr result (λ e. error_kind e ≢ ErrorKind.Interrupted) }
+{
+    for _ in 0..u64::MAX {
+        match file.read_at(into, at) {
+            Ok(n) => return Ok(n),
+            Err(error) => {
+                if error.kind() != ErrorKind::Interrupted {
+                    return Err(error);
+                }
+            }
+        }
+    }
+    Err(io::Error::from(ErrorKind::TimedOut))
+}
 
 #[derive(Drop)]
 struct OpenDump {
@@ -18,6 +40,7 @@ struct OpenDump {
 /// The files of the machine. The device tells neither its files nor their bytes, and
 /// counts each error of the machine as a fault: a name that can't be opened, a read
 /// that fails, and a file that ends before the size that it had when it was opened.
+/// A read that a signal interrupts is no fault: it is tried again.
 #[derive(Drop)]
 pub struct FileDumps<'a> {
     rt: &'a HostRuntime,
@@ -90,7 +113,7 @@ impl<'a> Dumps for FileDumps<'a> {
         } else {
             left as usize
         };
-        match open.file.read_at(&mut into[..most], at) {
+        match read_retrying(&open.file, &mut into[..most], at) {
             Ok(n) if n > 0 => {
                 self.taken.add(n as u64);
                 Ok(n)

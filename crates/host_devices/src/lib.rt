@@ -14,5 +14,5 @@
 mod file_dumps;
 mod std_sink;
 
-pub use file_dumps::FileDumps;
+pub use file_dumps::{FileDumps, read_retrying};
 pub use std_sink::StdSink;

@@ -38,7 +38,7 @@ AreCounts mails = IfSome mails (λ counts. All (λ count. IfSome count (λ n. n 
 abbrev pub IsReadBack : Data → Type 0
 IsReadBack tree = read (compact_text tree) ≡ Some tree
 
--- so is the text of each audit of a dump in a file
+-- the text of each audit of a dump in a file is read back as the tree of that audit
 abbrev pub ReadsBack : Type 0
 ReadsBack = (bytes : List ℕ) (limit : ℕ) (mails : Option (List (Option ℕ))) → AreOfFile bytes → AreCounts mails
     → IsReadBack (audit_tree (audit_of (index_of bytes) (process_table bytes).processes limit mails))

@@ -20,7 +20,7 @@ use Rattle.dump_audit.specs.declared.finding.Finding.TheVariants.{LinkOneSided, 
 abbrev pub characters : List ℕ → List ℕ
 characters bytes = encode_utf8_all bytes
 
--- such a text as a value
+-- a text of the dump as a value
 abbrev pub text : List ℕ → Data
 text bytes = string (characters bytes)
 
@@ -101,6 +101,6 @@ audit_tree a = finding_tree a.index a.processes (findings a)
 abbrev pub json_text : Data → List ℕ
 json_text tree = compact_text tree ++ codes "\n"
 
--- that of the tree of findings
+-- the text of the tree of findings and an LF
 abbrev pub findings_text : Contents → List Process → List Finding → List ℕ
 findings_text index processes found = json_text (finding_tree index processes found)

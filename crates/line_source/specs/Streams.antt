@@ -46,7 +46,7 @@ pub data LastLine : Type 0 where
   plain : LastLine
   header : List ℕ → LastLine
 
--- which of these a raw line is
+-- what a raw line is if it is the last
 abbrev pub line_kind : List ℕ → LastLine
 line_kind raw = if has_lf raw then ended else (if begins_with_equals raw then header raw else plain)
 

@@ -18,11 +18,11 @@ pub enum HeaderStop {
 /// A header that was refused.
 #[derive(Clone, Copy)]
 pub struct RefusedHeader {
-    /// Why it was refused.
+    /// Why the header was refused.
     pub value: HeaderStop,
-    /// The offset at which its line begins.
+    /// The offset at which the header's line begins.
     pub at: u64,
-    /// How many bytes its text has.
+    /// How many bytes the header's text has.
     pub size: usize,
 }
 

@@ -26,11 +26,11 @@ const MOST: usize = 4_096;
 // What is known of the last line that has come.
 #[derive(Clone, Copy)]
 enum LineState {
-    // It has its LF, or nothing has come.
+    // The last line has its LF, or nothing has come.
     Ended,
-    // It lacks its LF and begins with a byte other than `=`.
+    // The last line lacks its LF and begins with a byte other than `=`.
     Plain,
-    // It lacks its LF and begins with `=`, and its bytes are kept.
+    // The last line lacks its LF and begins with `=`, and its bytes are kept.
     Header,
 }
 

@@ -12,7 +12,7 @@ use std::marker::Model;
 /// A part of a list's text.
 #[derive(Clone, Copy)]
 pub(crate) struct Piece<'a> {
-    // The offset of its first byte.
+    // The offset of the part's first byte.
     pub at: u64,
     pub text: &'a [u8],
 }

@@ -38,7 +38,7 @@ impl<'a> EntryLists<'a> {
         })
     }
 
-    /// These lists and one more without entries, for a process that has no link list.
+    /// The lists and one more without entries, for a process that has no link list.
     pub fn with_none(self) -> Result<EntryLists<'a>, AllocError>
         ensures { IfOk result (λ lists. lists ≡ self.entry ++ no_links ∷ []) }
     {
@@ -47,8 +47,8 @@ impl<'a> EntryLists<'a> {
         Ok(EntryLists { lists })
     }
 
-    /// These lists and one more, which has this text and begins at the offset.
-    /// If the text isn't a list, it is unread and has no entries.
+    /// The lists and one more, which has this text and begins at the offset.
+    /// If the text isn't a list, the one more is unread and has no entries.
     pub fn with_list(
         self,
         alloc: Global,

@@ -37,7 +37,7 @@ pub struct Entry<'a> {
     pub at: u64,
     /// The entry's text, as it stands in the list.
     pub text: &'a [u8],
-    /// What it says.
+    /// What the entry says.
     pub kind: EntryKind<'a>,
 }
 

@@ -90,8 +90,7 @@ impl<'a> Graph<'a> {
         self.lists.has(p, kind)
     }
 
-    /// Whether a process has a link to this pid. Pids and
-    /// references are compared byte for byte, here and below.
+    /// Whether a process has a link to this pid. Pids are compared byte for byte.
     pub fn has_link(&self, p: usize, pid: &[u8]) -> bool
         requires { p < length self.now }
         ensures { result ≡ has_kind (Link pid.now) (links_at self.now p).entries }
@@ -99,7 +98,7 @@ impl<'a> Graph<'a> {
         self.has(p, &EntryKind::Link(pid))
     }
 
-    /// Whether a process monitors this pid, under this reference.
+    /// Whether a process monitors this pid, under this reference. Pids and references are compared byte for byte.
     pub fn has_to(&self, p: usize, pid: &[u8], reference: &[u8]) -> bool
         requires { p < length self.now }
         ensures { result ≡ has_kind (To pid.now reference.now) (links_at self.now p).entries }
@@ -107,7 +106,7 @@ impl<'a> Graph<'a> {
         self.has(p, &EntryKind::To(pid, reference))
     }
 
-    /// Whether a process is monitored by this pid, under this reference.
+    /// Whether a process is monitored by this pid, under this reference. Pids and references are compared byte for byte.
     pub fn has_from(&self, p: usize, pid: &[u8], reference: &[u8]) -> bool
         requires { p < length self.now }
         ensures { result ≡ has_kind (From pid.now reference.now) (links_at self.now p).entries }
@@ -115,7 +114,7 @@ impl<'a> Graph<'a> {
         self.has(p, &EntryKind::From(pid, reference))
     }
 
-    /// Whether a process monitors some registered name, under this reference.
+    /// Whether a process monitors some registered name, under this reference. References are compared byte for byte.
     pub fn has_to_name(&self, p: usize, reference: &[u8]) -> bool
         requires { p < length self.now }
         ensures { result ≡ has_kind (ToName reference.now) (links_at self.now p).entries }

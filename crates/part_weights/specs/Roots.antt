@@ -20,7 +20,7 @@ lead_to addresses e = None
 abbrev pub root_elements : List ℕ → BodyRoot → List PartElement
 root_elements addresses root = map (λ e. record { lead = lead_to addresses e; at = root.at; label = root.label }) (term_in root.content)
 
--- and of several
+-- what is weighed of several roots: the elements of those that are terms
 abbrev pub roots_elements : List ℕ → List BodyRoot → List PartElement
 roots_elements addresses roots = flat_map (root_elements addresses) roots
 

@@ -71,16 +71,16 @@ weighing heap within elements =
       parts = length parts;
     }
 
--- the same of the roots of the process with this pid
+-- what the parts hold that the roots of the process with this pid make
 abbrev pub root_weighing : List ℕ → Contents → List ℕ → Weighing
 root_weighing dump index pid =
     let heap = skeleton_for dump index pid in weighing heap None (roots_elements heap.addresses (all_roots dump (sections_in index) pid))
 
--- the same of the elements of a cell, beside what the cell reaches
+-- what the parts hold that the elements of a cell make, beside what the cell reaches
 abbrev pub cell_weighing : SkeletonMap → ℕ → Weighing
 cell_weighing heap cell = weighing heap (Some (weight_below heap.words (reached_at heap.leads cell) heap.own)) (cell_elements heap.kinds heap.leads cell)
 
--- that of the cell at an address, if the heap of the process has it
+-- what the parts hold that the elements of the cell at an address make, if the heap of the process has that cell
 abbrev pub address_weighing : List ℕ → Contents → List ℕ → ℕ → Option Weighing
 address_weighing dump index pid address =
     let heap = skeleton_for dump index pid in option_map (cell_weighing heap) (position (λ a. a == address) heap.addresses)

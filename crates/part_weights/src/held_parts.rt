@@ -10,9 +10,9 @@ use std::alloc::{AllocError, Global};
 /// A part that alone holds a cell.
 #[derive(Clone, Copy)]
 pub(crate) struct HeldPart {
-    /// Its number.
+    /// The number of the part.
     pub(crate) part: usize,
-    /// What it alone holds.
+    /// What the part alone holds.
     pub(crate) weight: Weight,
 }
 

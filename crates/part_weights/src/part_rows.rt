@@ -12,11 +12,11 @@ pub struct PartRow<'a> {
     pub kind: Option<Kind>,
     /// The address of its cell.
     pub address: u64,
-    /// How many of the weighed elements lead to it.
+    /// How many of the weighed elements lead to its cell.
     pub elements: u64,
-    /// Where the first of them stands: the offset in the file
-    /// of its root, or its place among the elements of a cell.
+    /// Where the first element that leads to its cell stands: the offset in the
+    /// file of the element's root, or its place among the elements of a cell.
     pub at: u64,
-    /// The label of that root, or `-`.
+    /// The label of the first element's root, or `-` if the elements of a cell are weighed.
     pub label: &'a [u8],
 }

@@ -124,8 +124,9 @@ impl Weights {
     /// over the open file, which stays open.
     ///
     /// Nothing that the sections hold is refused. Returns `Read` only if the device's count of faults rose; `Memory` may
-    /// come from any allocation, and comes where a [`Skeleton`] can't hold the heap. Whatever it returns,
-    /// at most as many bytes are read as these bodies, that of the heap and that of the literals have.
+    /// come from any allocation, and comes where a [`Skeleton`] can't hold the heap, or where the labels of the parts have
+    /// more than 4 GiB together. Whatever it returns, at most as many bytes are read as these bodies, that of the heap and
+    /// that of the literals have.
     pub fn of_roots<D: Dumps>(
         alloc: Global,
         dumps: &mut D,
@@ -237,7 +238,7 @@ impl Weights {
         self.parts.total()
     }
 
-    /// How many parts they make.
+    /// How many parts the weighed elements make.
     pub fn parts(&self) -> usize
         ensures { result ≡ self.now.parts }
     {

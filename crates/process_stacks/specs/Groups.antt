@@ -18,11 +18,11 @@ pub record Found : Type 0 where
   pub places : List (List ℕ)
   pub groups : List TextGroup
 
--- that of these processes
+-- what is found of processes, given how each of them is grouped: the lines of their places, and their groups
 abbrev pub found_of : List Item → Found
 found_of stands = record { places = map (λ s. s.text) stands; groups = most_first (λ group. group.count) (groups stands) }
 
--- that of the processes of these rows
+-- what is found of the processes of these rows
 abbrev pub found_from : List ℕ → Contents → List Row → Found
 found_from dump index rows = found_of (map (stand_of dump index) rows)
 

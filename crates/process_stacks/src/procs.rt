@@ -115,7 +115,7 @@ impl StackProcs {
         }
     }
 
-    /// Its name, if it has one.
+    /// The name of the process at a place, if it has one.
     pub fn name(&self, i: usize) -> Option<&[u8]>
         requires { i < length self.now }
         ensures { option_copied result ≡ name_in (row_at self.now i) }
@@ -123,7 +123,7 @@ impl StackProcs {
         text_at(&self.rows, i, 1)
     }
 
-    /// Its memory in bytes, or 0 where its section has no decimal number below 2^64 for it.
+    /// The memory of the process at a place in bytes, or 0 where its section has no decimal number below 2^64 for it.
     pub fn memory(&self, i: usize) -> u64
         requires { i < length self.now }
         ensures { result ≡ memory_in (row_at self.now i) }
@@ -131,7 +131,7 @@ impl StackProcs {
         number_or_0(text_at(&self.rows, i, 2))
     }
 
-    /// Its program counter, if it has one.
+    /// The program counter of the process at a place, if it has one.
     pub fn counter(&self, i: usize) -> Option<&[u8]>
         requires { i < length self.now }
         ensures { option_copied result ≡ counter_in (row_at self.now i) }
@@ -139,7 +139,7 @@ impl StackProcs {
         text_at(&self.rows, i, 3)
     }
 
-    /// Its current call, if it has one.
+    /// The current call of the process at a place, if it has one.
     pub fn call(&self, i: usize) -> Option<&[u8]>
         requires { i < length self.now }
         ensures { option_copied result ≡ call_in (row_at self.now i) }

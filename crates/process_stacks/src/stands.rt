@@ -20,14 +20,14 @@ impl Model for Stand {
 }
 
 impl Stand {
-    // The lines of its place.
+    // The lines of the place at which the process stands.
     fn lines(&self) -> &[u8]
         ensures { result.now ≡ self.now.text }
     {
         self.lines.as_slice()
     }
 
-    // Its memory.
+    // The memory of the process.
     fn memory(&self) -> u64
         ensures { result ≡ self.now.weight }
     {

@@ -14,7 +14,7 @@ pub record ProcessFields : Type 0 where
   pub rows : List Row
   pub repeated : ℕ
 
--- those of the bytes of a dump, with the fields that have this key
+-- a row for each process of the bytes of a dump, with the fields that have this key, and how many sections were passed over
 abbrev pub field_table : List ℕ → List ℕ → ProcessFields
 field_table key bytes = record {
   rows = rows_of bytes (columns_with key) (record_sections (sections bytes));

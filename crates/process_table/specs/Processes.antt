@@ -80,7 +80,7 @@ pub record AreProcessesOver (index : Contents) (table : ProcessTable) : Type 0 w
   pub repeated : table.repeated ≡ repeated (sections_in index)
   pub named : All (IsProcessIn index) table.processes
 
--- the offsets of its fields are within the largest dump, and their texts no longer than the largest body
+-- the offsets of a process's fields are within the largest dump, and their texts no longer than the largest body
 pub record IsBoundedProcess (p : Process) : Type 0 where
   pub state : IsBoundedCell p.state
   pub name : IsBoundedCell p.name

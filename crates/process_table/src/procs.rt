@@ -40,7 +40,7 @@ pub struct Proc<'a> {
     pub links: Option<Kept<'a>>,
     /// The field `BinVHeap`: how many words the binaries outside the heaps take to which its young cells refer.
     pub virtual_heap: Option<Kept<'a>>,
-    /// The field `OldBinVHeap`: the same for its old cells.
+    /// The field `OldBinVHeap`: how many words the binaries outside the heaps take to which its old cells refer.
     pub old_virtual_heap: Option<Kept<'a>>,
 }
 

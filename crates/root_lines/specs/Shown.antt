@@ -13,7 +13,7 @@ pub record SomeRoots : Type 0 where
   pub shown : List BodyRoot
   pub count : ℕ
 
--- those from a place on, at most so many
+-- the roots of a body from a place on, from 0, at most so many, and how many it has in all
 abbrev pub shown_roots : RootKind → ℕ → ℕ → List ℕ → SomeRoots
 shown_roots kind first most body = record { shown = some_of first most (roots_in kind body); count = length (roots_in kind body) }
 

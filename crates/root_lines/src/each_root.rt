@@ -15,10 +15,10 @@ use std::alloc::AllocError;
 
 /// Hears the roots of a body one by one, in order, until memory is lacking.
 pub trait EachRoot {
-    /// Whether it may hear roots.
+    /// Whether the sink may hear roots.
     ghost ready: { Self → Type 0 };
 
-    /// Which roots it heard between two states.
+    /// Which roots the sink heard between two states.
     ghost hears: { Self → Self → List BodyRoot → Type 0 };
 
     /// Hears a root. Its offset is that in the file.

@@ -5,22 +5,22 @@ use root_views::RootKind;
 /// A root that is kept.
 #[derive(Clone, Copy)]
 pub(crate) struct KeptRoot {
-    /// Its offset in the file.
+    /// The root's offset in the file.
     pub(crate) at: u64,
-    /// Where its line begins among the kept lines.
+    /// Where the root's line begins among the kept lines.
     pub(crate) start: usize,
-    /// Where its line ends there.
+    /// Where the root's line ends among the kept lines.
     pub(crate) end: usize,
-    /// Its place among the roots of its line, from 0.
+    /// The root's place among the roots of its line, from 0.
     pub(crate) place: usize,
 }
 
 /// Roots that are kept. A line that has several of them is kept once.
 #[derive(Drop)]
 pub(crate) struct KeptRoots {
-    /// Of which kind they are.
+    /// Of which kind the roots are.
     pub(crate) kind: RootKind,
-    /// The raw lines in which they stand, one behind another.
+    /// The raw lines in which the roots stand, one behind another.
     pub(crate) lines: Vec<u8>,
     pub(crate) roots: Vec<KeptRoot>,
 }

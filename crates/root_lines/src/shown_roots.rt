@@ -115,7 +115,7 @@ impl ShownRoots {
         self.count
     }
 
-    /// How many of them are shown.
+    /// How many of the body's roots are shown.
     pub fn len(&self) -> usize
         ensures { result ≡ length self.now.shown }
     {

@@ -113,7 +113,7 @@ is_message root = bytes_eq root.label (codes "m")
 abbrev pub message_count : List ℕ → ℕ
 message_count body = count_by is_message (mail_roots body)
 
--- ---- where they stand
+-- ---- where roots stand
 
 -- the root begins inside the body
 abbrev pub IsInside : List ℕ → BodyRoot → Type 0

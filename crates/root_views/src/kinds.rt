@@ -15,11 +15,11 @@ use std::marker::Model;
 /// Which roots of a process a body holds.
 #[derive(Clone, Copy)]
 pub enum RootKind {
-    /// Those of its stack, in a `proc_stack` section.
+    /// The roots of a process's stack, in a `proc_stack` section.
     Stack,
-    /// Those of its dictionary, in a `proc_dictionary` section.
+    /// The roots of a process's dictionary, in a `proc_dictionary` section.
     Dict,
-    /// Those of its mailbox, in a `proc_messages` section.
+    /// The roots of a process's mailbox, in a `proc_messages` section.
     Mail,
 }
 

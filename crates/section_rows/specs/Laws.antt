@@ -8,6 +8,6 @@ use Rattle.section_rows.specs.Rows.{Row, row_at, cell_at}
 pub row_at-there : (rows : List Row) (i : ℕ) → i < length rows → slice_get rows i ≡ Some (row_at rows i)
 row_at-there rows i inside = slice_get-there rows i (record { at = 0; cells = [] }) inside
 
--- and so is the cell of a row
+-- the cell at a place of a row is there
 pub cell_at-there : (row : Row) (c : ℕ) → c < length row.cells → slice_get row.cells c ≡ Some (cell_at row c)
 cell_at-there row c inside = slice_get-there row.cells c None inside

@@ -60,7 +60,7 @@ fn tag<'a>(section: &Section<'a>) -> Option<Kept<'a>>
     })
 }
 
-// The cell of a column that shows the header. That of a field is in the body.
+// The cell of a column that shows the header. The cell of a field is in the body.
 pub(crate) fn own<'a>(section: &Section<'a>, column: &Column<'_>) -> Option<Kept<'a>>
     requires { IsLent section.now }
     ensures value { shown_cell result ≡ own_cell (shown_section section.now)

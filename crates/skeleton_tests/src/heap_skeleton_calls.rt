@@ -30,7 +30,13 @@ fn load<D: Dumps>(alloc: Global, dumps: &mut D) -> Result<Result<Skeleton, ReadF
     Ok(Skeleton::load(alloc, dumps, &index, b"<0.1.0>"))
 }
 
-fn skeleton_in(alloc: Global, version: &str, heap: &str, literals: &str) -> Result<Skeleton, Fail> {
+// The skeleton of the heap with these lines and the literals with those.
+pub(crate) fn skeleton_in(
+    alloc: Global,
+    version: &str,
+    heap: &str,
+    literals: &str,
+) -> Result<Skeleton, Fail> {
     let mut dumps = device(alloc, version, heap, literals, &[])?;
     match load(alloc, &mut dumps)? {
         Ok(skeleton) => Ok(skeleton),

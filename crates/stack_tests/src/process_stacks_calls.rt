@@ -69,7 +69,7 @@ call\tm:f/1
 stacks 6 processes 8
 ";
 
-// So it is if a single group is asked for.
+// What is reported on the sample if a single group is asked for.
 const FIRST: &[u8] = b"stack\t2\t18446744073709551615\t<0.2.0>\tx\t81
 frame\tReturn addr 0x5 (m:f/1 + 8)
 frame\t

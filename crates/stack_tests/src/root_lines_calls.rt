@@ -46,7 +46,7 @@ fn draw(alloc: Global, roots: &ShownRoots) -> Result<Vec<u8>, AllocError> {
     Ok(out)
 }
 
-// Those of the body between two offsets, or why they aren't shown.
+// The roots of the body between two offsets that are shown, or why none are shown.
 fn drawn_between<D: Dumps>(
     alloc: Global,
     dumps: &mut D,
@@ -68,7 +68,7 @@ fn drawn_between<D: Dumps>(
     Ok(text)
 }
 
-// Those of a body in a file, from a device that cuts its reads and fails at some calls.
+// The roots of a body in a file that are shown, from a device that cuts its reads and fails at some calls.
 fn drawn(
     alloc: Global,
     body: &[u8],
@@ -247,7 +247,7 @@ fn heard_between<D: Dumps>(
     Ok(drawing.out)
 }
 
-// The same for two bodies in a file, from a device that cuts its reads and fails at some calls.
+// The roots of a stack and of a mailbox in a file, from a device that cuts its reads and fails at some calls.
 fn heard(
     alloc: Global,
     stack: &[u8],

@@ -96,7 +96,7 @@ pub fn elem(text: &[u8]) -> Option<(Elem<'_>, usize)>
     ensures found { IfSome result (λ found. IsFront text.now (element found.0) found.1) }
     // Nothing is found only if no prefix spells an element.
     ensures none { IfNone result ((n : ℕ) (e : Element) → IsElem (take n text.now) e → ⊥) }
-    // It is the element, with its length, that the definitions compute.
+    // What is found is the element, with its length, that the definitions compute.
     ensures exact { option_map element_len result ≡ front text.now }
     ensures within { IfSome result (λ found. found.1 ≤ length text.now) }
 {

@@ -27,7 +27,7 @@ pub fn whole_elem(text: &[u8]) -> Option<Elem<'_>>
     ensures found { IfSome result (λ e. IsElem text.now (element e)) }
     // Nothing is found only if the text spells no element.
     ensures none { IfNone result ((e : Element) → IsElem text.now e → ⊥) }
-    // It is the element that the definitions compute.
+    // What is found is the element that the definitions compute.
     ensures exact { option_map element result ≡ whole_of text.now }
 {
     read_whole(text)

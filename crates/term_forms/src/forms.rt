@@ -40,7 +40,7 @@ pub fn form(text: &[u8], enc: Enc) -> Option<Form<'_>>
     ensures found { IfSome result (λ f. IsForm enc text.now (heap_form f)) }
     // Nothing is found only if the text spells no form.
     ensures none { IfNone result ((f : HeapForm) → IsForm enc text.now f → ⊥) }
-    // It is the form that the definitions compute.
+    // What is found is the form that the definitions compute.
     ensures exact { option_map heap_form result ≡ form_of enc text.now }
 {
     payload_bytes_are_read(enc);

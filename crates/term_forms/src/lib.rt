@@ -1,5 +1,5 @@
-//! The elements and heap forms of a crash dump's text, read and
-//! written, and the payloads of binaries (binary_payloads), in both encodings.
+//! The elements and heap forms of a crash dump's text, read and written. What
+//! reads the payloads of forms, in both encodings, is handed on from binary_payloads.
 //!
 //! ```
 //! let (address, text) = heap_line(b"7F10:t2:A2:ok,H20")?; // 0x7F10, and the text of a form

@@ -31,7 +31,7 @@ pub fn heap_line(text: &[u8]) -> Option<(u64, &[u8])>
     ensures found { IfSome result (λ found. IsLed text.now found.0 found.1.now) }
     // Nothing is found only if the text isn't that.
     ensures none { IfNone result ((address : ℕ) (rest : List ℕ) → IsLed text.now address rest → ⊥) }
-    // They are what the definitions compute.
+    // What is found is the number and the rest that the definitions compute.
     ensures exact { option_map number_rest result ≡ led_of text.now }
     ensures shorter { IfSome result (λ found. length found.1.now < length text.now) }
 {

@@ -28,7 +28,7 @@ root_line say base root = line_of word_space (decimal (base + root.at) ∷ root.
 abbrev pub root_lines : (Element → List ℕ) → ℕ → List BodyRoot → List ℕ
 root_lines say base roots = flat_map (root_line say base) roots
 
--- the lines of the roots that are shown of such a body, and of how many it has in all
+-- the lines of the roots that are shown of a body that begins at this offset, and of how many roots it has in all
 abbrev pub shown_report : (Element → List ℕ) → ℕ → List BodyRoot → ℕ → List ℕ
 shown_report say base shown count = root_lines say base shown ++ total_line (codes "roots") count
 
@@ -36,7 +36,7 @@ shown_report say base shown count = root_lines say base shown ++ total_line (cod
 abbrev pub roots_report : (Element → List ℕ) → ℕ → List BodyRoot → List ℕ
 roots_report say base roots = shown_report say base roots (length roots)
 
--- the report of at most this many of them, from a place on
+-- the report of at most this many of the roots of a body that begins at this offset, from a place on
 abbrev pub some_roots_report : (Element → List ℕ) → ℕ → ℕ → ℕ → List BodyRoot → List ℕ
 some_roots_report say base first most roots = shown_report say base (some_of first most roots) (length roots)
 

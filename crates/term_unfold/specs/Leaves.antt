@@ -63,7 +63,7 @@ form_text enc preview (Ext size chars) = sized_text (codes "#Ext<") size (own_pr
 form_text enc preview (HeapBin size chars) = sized_text (codes "#Bin<") size (own_preview enc size chars)
 form_text enc preview (RefBin address offset size) = sized_text (codes "#Bin<") size preview
 form_text enc preview (SubBin address offset size) = sized_text (codes "#Bin<") size preview
--- the others are no leaves
+-- forms of other kinds are no leaves
 form_text enc preview form = []
 
 -- the text of a leaf of a heap with these cells, from the encoding of payloads and the previews

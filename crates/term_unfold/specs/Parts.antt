@@ -32,7 +32,7 @@ asked node = None
 abbrev pub is_lacking : (ℕ → Bool) → List Cell → ℕ → Bool
 is_lacking has part a = if has_cell part a then false else has a
 
--- the address, if it is such a one
+-- the address, if `has` tells it and it is that of no cell of the part
 abbrev pub if_lacking : (ℕ → Bool) → List Cell → ℕ → Option ℕ
 if_lacking has part a = if is_lacking has part a then Some a else None
 
@@ -40,7 +40,7 @@ if_lacking has part a = if is_lacking has part a then Some a else None
 abbrev pub gap_at : (ℕ → Bool) → List Cell → Tree → Option ℕ
 gap_at has part node = option_and_then (if_lacking has part) (asked node)
 
--- the first such address, where `gap` gives that of a node
+-- the first address that `gap` gives for one of the nodes, in order
 abbrev pub first_gap : (Tree → Option ℕ) → List Tree → Option ℕ
 first_gap gap [] = None
 first_gap gap (node ∷ nodes) = option_or (gap node) (first_gap gap nodes)

@@ -20,7 +20,7 @@ pub record Walk : Type 0 where
   pub previews : List Entry
   pub reserved : ℕ
 
--- a walker over these two, with room for exactly one more entry than there are cells
+-- a walker over a heap and its previews, with room for exactly one more entry than there are cells
 abbrev pub new_walk : HeapMap → List Entry → Walk
 new_walk heap previews = record { heap = heap; previews = previews; reserved = length heap.cells + 1 }
 

@@ -18,7 +18,7 @@ item_at items i = slice_index_or items i (record { text = []; weight = 0 })
 abbrev pub has_text : List ℕ → Item → Bool
 has_text text item = bytes_eq text item.text
 
--- the items that have it
+-- the items that have this text
 abbrev pub members : List ℕ → List Item → List Item
 members text items = filter (has_text text) items
 

@@ -7,9 +7,9 @@ use size_order::Measured;
 pub struct TextGroup {
     /// The place among the items of the first of them, from 0.
     pub first: usize,
-    /// How many they are.
+    /// How many items the group has.
     pub count: u64,
-    /// Their weight together; a sum above 2^64 - 1 is given as that.
+    /// The weight of these items together; a sum above 2^64 - 1 is given as that.
     pub weight: u64,
 }
 

@@ -15,7 +15,7 @@ use Rattle.binary_holders.specs.declared.texts.Reference.{Reference}
 abbrev pub text_reference : Enc → List ℕ → Option Reference
 text_reference enc text = option_and_then (λ led. referred (form_of enc led.1)) (led_of text)
 
--- the reference of a raw line, if it is such a heap line
+-- the reference of a raw line, if it is a heap line whose form is one
 abbrev pub line_reference : Enc → List ℕ → Option Reference
 line_reference enc raw = text_reference enc (text_of raw)
 
@@ -31,7 +31,7 @@ IsMarked bytes place = (0 < place) × (slice_index bytes (place - 1) ≡ letter 
 abbrev pub mark : Bool → List ℕ
 mark whole = codes ":Y" ++ (if whole then letter (codes "c") else letter (codes "s")) ∷ []
 
--- one of these two marks stands at a place
+-- the mark of a whole binary or that of a part of one stands at a place
 abbrev pub IsReferenceMark : List ℕ → ℕ → Type 0
 IsReferenceMark bytes k = (whole : Bool) × OccursAt bytes (mark whole) k
 

@@ -8,11 +8,11 @@ use Rattle.stored_binaries.specs.StoredBinaries.{body_at}
 use Rattle.binary_refs.specs.declared.faults.BinFault.{BinFault}
 use Rattle.binary_refs.specs.Wholes.{bytes_of_body, LoadsBinary}
 
--- its bytes, from those of a dump
+-- the bytes of the binary whose section is at a place, from those of a dump
 abbrev pub bytes_at : List ℕ → Contents → ℕ → Option (List ℕ)
 bytes_at dump index place = bytes_of_body (enc_of index.version) (body_at dump index place)
 
--- what a call does that loads it
+-- what a call does that loads the binary whose section is at a place
 abbrev pub LoadsBinaryAt : {D T : Type 0} → (D → DeviceState) → Contents → ℕ → ℕ → D → D → Result T BinFault → Type 0
 LoadsBinaryAt state index place limit before after result =
     LoadsBinary state (Some (section_at index place)) limit before after result

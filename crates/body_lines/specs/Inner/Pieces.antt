@@ -38,7 +38,8 @@ TakesPiece hears lines_of old new kept line at piece next buffer =
     (front : List ℕ) → IsOpenLine kept line at (take (min kept (at - line)) piece) front
     → Takes hears lines_of old new kept line (front ++ drop (min kept (at - line)) piece) next buffer
 
--- a sink stopped among the lines of such a piece
+-- a piece begins with what is kept of the line that was read up to an offset:
+-- a sink stopped among the lines of that line and of the bytes behind it
 abbrev pub StopsInPiece : {S L T : Type 0} → (S → S → List L → Type 0) → (S → S → List L → T → Type 0) → (ℕ → List ℕ → List L)
     → S → S → ℕ → ℕ → ℕ → List ℕ → T → Type 0
 StopsInPiece hears stops lines_of old new kept line at piece stop =
@@ -50,7 +51,7 @@ abbrev pub HearsOpen : {S L : Type 0} → (S → S → List L → Type 0) → (�
 HearsOpen hears lines_of old new kept line upto buffer =
     (front : List ℕ) → IsOpenLine kept line upto (take (min kept (upto - line)) buffer) front → Hears hears old new (lines_of line front)
 
--- a sink stopped at such a line
+-- a sink stopped at the line of which this is kept and which was read up to an offset, where it ends
 abbrev pub StopsAtOpen : {S L T : Type 0} → (S → S → List L → Type 0) → (S → S → List L → T → Type 0) → (ℕ → List ℕ → List L)
     → S → S → ℕ → ℕ → ℕ → List ℕ → T → Type 0
 StopsAtOpen hears stops lines_of old new kept line upto buffer stop =

@@ -14,7 +14,7 @@ reverse-push items c = reverse-append items (c ∷ [])
 
 -- ---- no more cells wait than there are marks
 
--- one more number that isn't among them
+-- different numbers, and one more that isn't among them, are different
 distinct-more : (c : ℕ) (cs : List ℕ) → is_on c cs ≡ false → IsDistinct nat_eq cs → IsDistinct nat_eq (c ∷ cs)
 unfolding IsDistinct
 distinct-more c cs other distinct = (none_passes (nat_eq c) cs other, distinct)
@@ -66,14 +66,14 @@ IsTied-push marks capacity before after c tied lt off pushed =
       bound = length-waiting (set marks c true) (c ∷ before) distinct marked;
     })
 
--- none waits
+-- what waits is tied to the marks if nothing waits
 pub IsTied-none : (marks : List Bool) (capacity : ℕ) (waiting : List ℕ) → capacity ≡ length marks → waiting ≡ [] → IsTied marks capacity (reverse waiting)
 unfolding IsDistinct
 IsTied-none marks capacity waiting room none =
     subst (λ ws. IsTied marks capacity (reverse ws)) (sym none)
     (record { room = room; distinct = tt; marked = λ n on. absurd (false≢true on); bound = omega arith })
 
--- one waits no more, or none did
+-- what waits stays tied to the marks when one cell waits no more, or none did
 tied-rest : (marks : List Bool) (capacity : ℕ) (popped : Option ℕ) (rest : List ℕ) → IsTied marks capacity (reverse (option_to_list popped) ++ rest) → IsTied marks capacity rest
 unfolding IsDistinct
 tied-rest marks capacity None rest tied = tied
@@ -95,7 +95,7 @@ pub IsTied-pop : (marks : List Bool) (capacity room : ℕ) (before after : List 
 IsTied-pop marks capacity room before after popped tied same was =
     subst (λ r. IsTied marks r (reverse after)) (sym same) (tied-rest marks capacity popped (reverse after) (tied-split marks capacity before after popped tied was))
 
--- it is one of the cells
+-- a number that waits no more is that of one of the cells
 popped-within : (marks : List Bool) (capacity : ℕ) (popped : Option ℕ) (rest : List ℕ) → IsTied marks capacity (reverse (option_to_list popped) ++ rest)
     → MatchOption popped (rest ≡ []) (λ c. Unit {0}) → MatchOption popped (rest ≡ []) (λ c. c < length marks)
 popped-within marks capacity None rest tied none = none

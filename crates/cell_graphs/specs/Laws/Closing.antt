@@ -18,7 +18,8 @@ pub count-most : (p : ℕ → Bool) (n : ℕ) → count_below p n ≤ n
 count-most p zero = omega arith
 count-most p (suc n) = omega (arith, count-most p n, one-most (p n))
 
--- one more number of a smaller and a greater set
+-- with one more number a greater set has more numbers than a smaller
+-- one, or no fewer, and this number only if the smaller set has it
 count-step : (a b : Bool) (x y : ℕ) → x ≤ y → (a ≡ true → b ≡ true) → (x + one_if a < y + one_if b) ⊎ ((x + one_if a ≤ y + one_if b) × (b ≡ true → a ≡ true))
 count-step true true x y le more = inr (omega (arith, le), λ is. refl)
 count-step true false x y le more = absurd (false≢true (more refl))
@@ -146,6 +147,6 @@ module _ (graph : Graph) where
     pub found-reached : (n : ℕ) → reached_from graph begun n ≡ true → Reached graph (λ j. begun j ≡ true) n
     found-reached n is = round-reached (length graph) n is
 
-    -- and what is reached they find
+    -- what a set reaches the rounds find
     pub reached-found : LeadsWithin graph → (n : ℕ) → Reached graph (λ j. begun j ≡ true) n → reached_from graph begun n ≡ true
     reached-found within n is = reached-closed graph (λ j. begun j ≡ true) (λ j. rounds (length graph) j ≡ true) n is (begun-kept (length graph)) (shut-end within)

@@ -28,7 +28,7 @@ places-of cells m = places-in cells cells m
 pub cells-of : (cells : List Cell) → length (graph_of cells) ≡ length cells
 cells-of cells = length-map cells (λ cell. places_of cells cell.form)
 
--- ---- they lead to cells of the heap
+-- ---- the places of a cell lead to cells of the heap
 
 found-within : (cells : List Cell) (address n : ℕ) (o : Option ℕ) → number_at cells address ≡ o → cell_in (target_at address o) ≡ Some n → n < length cells
 found-within cells address n None at is = absurd (none-some n is)
@@ -63,7 +63,7 @@ heap-within cells m n (k, is) =
     let inside : n < length cells = form-within cells (form_at cells m) k n (ap (λ places. slice_get places k) (sym (places-of cells m)) ∙ is) in
     omega (arith, inside, cells-of cells)
 
--- ---- they are what the slots say
+-- ---- the places of a cell are what its slots say
 
 no-past : (places : List (Option ℕ)) (k : ℕ) → k < length places → slice_get places k ≡ None → ⊥
 no-past [] k within none = omega (arith, within)
@@ -106,7 +106,7 @@ module _ (cells : List Cell) (m : ℕ) (slots : List Slot) (k : ℕ) (targets : 
       let here : k ≡ 0 = omega (arith, one, within) in
       ap (λ ps. slice_get ps k) is ∙ ap (slice_get (place ∷ [])) here
 
-  -- the only other place is that of a sub binary
+  -- a place for which there is no slot is that of a sub binary, and leads to the heap binary at its address
   pub lead-whole : (whole : Option ℕ) → slice_get slots k ≡ None → k < length (places_at (graph_of cells) m)
       → ((address offset size : ℕ) → form ≡ Some (SubBin address offset size) → whole ≡ bin_at cells address) → slice_get (places_at (graph_of cells) m) k ≡ Some whole
   lead-whole whole none within is =

@@ -16,7 +16,7 @@ by-parts graph m i place n here (k, below, is) =
           inr (same_Some place (Some n) (sym here ∙ subst (λ j. slice_get (places_at graph m) j ≡ Some (Some n)) same is))
     ]
 
--- one place more
+-- with one more place of a cell, what leads from the places before it and from it has been added
 pub places-next : (graph : Graph) (m i : ℕ) (place : Option ℕ) (a b c : Frontier) → slice_get (places_at graph m) i ≡ Some place → Adds a b (LeadsBy graph m i) → Adds b c (λ n. place ≡ Some n)
     → Adds a c (LeadsBy graph m (i + 1))
 places-next graph m i place a b c here one two =
@@ -25,14 +25,14 @@ places-next graph m i place a b c here one two =
     (λ n (k, below, is). (k, omega (arith, below), is))
     (λ n is. (i, omega arith, here ∙ ap Some is))
 
--- all of them
+-- with all places of a cell, what leads from the cell has been added
 pub places-end : (graph : Graph) (m i : ℕ) (a b : Frontier) → length (places_at graph m) ≤ i → Adds a b (LeadsBy graph m i) → Adds a b (Leads graph m)
 places-end graph m i a b all adds =
     Adds-same a b (LeadsBy graph m i) (Leads graph m) adds
     (λ n (k, below, is). (k, is))
     (λ n (k, is). (k, omega (arith, all, slice_get_within (places_at graph m) k (Some n) is), is))
 
--- it is one of the graph's
+-- the cell to which a place leads is one of the graph's
 pub place-within : (graph : Graph) (m i : ℕ) (place : Option ℕ) → LeadsWithin graph → slice_get (places_at graph m) i ≡ Some place → IfSome place (λ n. n < length graph)
 place-within graph m i None within here = tt
 place-within graph m i (Some n) within here = within m n (i, here)

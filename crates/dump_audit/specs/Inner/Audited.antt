@@ -26,7 +26,7 @@ pub record IsKept (a : Audit) (links : List Links) (seen : State) (tests : List 
 abbrev pub held : Audit → Holder → Process
 held a holder = process_at a.processes holder.p
 
--- where its section begins
+-- where the section of a holder's process begins
 abbrev pub held_offset : Audit → Holder → ℕ
 held_offset a holder = section_offset a.index (held a holder)
 

@@ -12,7 +12,7 @@ use Rattle.dump_io.specs.Lines.{lf}
 abbrev pub lacks_lf : List ℕ → Bool
 lacks_lf bytes = list_all (λ c. not (c == lf)) bytes
 
--- neither the first of them is one, nor one of the rest
+-- of bytes without an LF neither the first is one, nor has the rest one
 pub lacks_lf-head : (c : ℕ) (bytes : List ℕ) → lacks_lf (c ∷ bytes) ≡ true → (c == lf) ≡ false
 lacks_lf-head c bytes lacks = not-true (c == lf) (and_parts _ _ lacks).0
 

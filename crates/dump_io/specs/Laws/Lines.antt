@@ -31,7 +31,7 @@ length-raw_lines (c ∷ bytes) =
       | false ↦ omega (arith, rest, length-lines_after c (raw_lines bytes))
     ]
 
--- and as many with their offsets
+-- there are as many lines with their offsets as lines
 pub length-lines_from : (at : ℕ) (lines : List (List ℕ)) → length (lines_from at lines) ≡ length lines
 length-lines_from at [] = refl
 length-lines_from at (line ∷ lines) = ap suc (length-lines_from (at + length line) lines)

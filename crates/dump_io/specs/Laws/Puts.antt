@@ -97,24 +97,24 @@ HasPut-none {a = a} = record { later = omega arith; gained = sym (grown-nil a.wr
 pub HasPut-as : {a b : SinkState} {xs ys : List ℕ} → xs ≡ ys → HasPut a b xs → HasPut a b ys
 HasPut-as {a = a} {b = b} same put = subst (HasPut a b) same put
 
--- a call that succeeded
+-- a call that succeeded has put its text
 pub HasPut-done : {T E : Type 0} {a b : SinkState} {xs : List ℕ} {x : T} → Puts {E = E} a b xs (Ok x) → HasPut a b xs
 HasPut-done puts = record { later = puts.later; gained = puts.writes.whole }
 
--- two such texts in a row
+-- what several calls have put, and what further calls have put behind it, is one text in a row
 pub HasPut-both : {a b c : SinkState} {xs ys : List ℕ} → HasPut a b xs → HasPut b c ys → HasPut a c (xs ++ ys)
 HasPut-both {a = a} {b = b} {c = c} {xs = xs} {ys = ys} first second =
     record { later = omega (arith, first.later, second.later); gained = grown-next a.written b.written c.written xs ys first.gained second.gained }
 
--- one more call that went well
+-- after several calls that succeeded one more puts its text behind theirs
 pub HasPut-then : {T E : Type 0} {a b c : SinkState} {xs ys : List ℕ} {x : T} → HasPut a b xs → Puts {E = E} b c ys (Ok x) → HasPut a c (xs ++ ys)
 HasPut-then first second = HasPut-both first (HasPut-done second)
 
--- what was put is all there is
+-- several calls that succeeded have put their texts as one call does that succeeds
 pub HasPut-whole : {T E : Type 0} {a b : SinkState} {xs : List ℕ} {x : T} → HasPut a b xs → Puts {E = E} a b xs (Ok x)
 HasPut-whole put = record { later = put.later; writes = record { whole = put.gained; front = tt }; failed = tt }
 
--- a call after them
+-- a call after several that succeeded puts its text behind theirs, or breaks off in it
 pub Puts-behind : {T E : Type 0} {a b c : SinkState} {xs ys : List ℕ} {r : Result T E} → HasPut a b xs → Puts b c ys r → Puts a c (xs ++ ys) r
 Puts-behind {a = a} {b = b} {xs = xs} first second =
     let done : Puts {T = Unit {0}} {E = Unit {0}} a b xs (Ok tt) = HasPut-whole first in Puts-then done second
@@ -132,11 +132,11 @@ HasPutPart-next whole later last first second =
       splits = first.splits ∙ ap (λ l. first.part ++ l) second.splits ∙ sym (append_assoc first.part second.part last);
     }
 
--- the rest, behind a part that was put
+-- a call that puts the rest of a text, behind a part that was put, puts the whole text
 pub HasPutPart-rest : {T E : Type 0} {a b c : SinkState} (whole later : List ℕ) (r : Result T E) → HasPutPart a b whole later → Puts b c later r → Puts a c whole r
 HasPutPart-rest whole later r part puts = Puts-as (sym part.splits) (Puts-behind part.put puts)
 
--- nothing is still to come
+-- a text of which nothing is still to come has been put
 pub HasPutPart-whole : {T E : Type 0} {a b : SinkState} (whole : List ℕ) (x : T) → HasPutPart a b whole [] → Puts {E = E} a b whole (Ok x)
 HasPutPart-whole whole x part = Puts-as (sym (append-nil part.part) ∙ sym part.splits) (HasPut-whole part.put)
 
@@ -162,14 +162,14 @@ pub HasPut-more : {X T E : Type 0} {a b c : SinkState} {y : T} (text : X → Lis
 HasPut-more {a = a} {c = c} text xs i x is so_far next =
     subst (HasPut a c) (sym (flat_map-more text xs i x is)) (HasPut-then so_far next)
 
--- it breaks off, and so does the whole
+-- if the text at a place breaks off behind those before it, so does the text of the whole list
 pub Puts-broken : {X T U E F : Type 0} {a b c : SinkState} {e : F} {r : Result T E} (text : X → List ℕ) (xs : List X) (i : ℕ) (x : X) → slice_get xs i ≡ Some x
     → HasPut a b (flat_map text (take i xs)) → IsErr r → Puts {T = U} b c (text x) (Err e) → Puts a c (flat_map text xs) r
 Puts-broken {a = a} {c = c} {r = r} text xs i x is so_far failed broken =
     subst (λ l. Puts a c l r) (sym (flat_map-at text xs i x is))
     (Puts-behind so_far (Puts-stopped (flat_map text (drop (suc i) xs)) failed broken))
 
--- none is left
+-- if the texts of all elements of a list were put, the text of the list was
 pub Puts-all : {X T E : Type 0} {a b : SinkState} {y : T} (text : X → List ℕ) (xs : List X) (i : ℕ) → length xs ≤ i
     → HasPut a b (flat_map text (take i xs)) → Puts {E = E} a b (flat_map text xs) (Ok y)
 Puts-all text xs i none so_far = HasPut-whole (HasPut-as (ap (λ l. flat_map text l) (take_all i xs none)) so_far)

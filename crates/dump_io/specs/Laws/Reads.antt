@@ -17,7 +17,7 @@ ReadsAtMost-then first second = grind arith
 pub ReadsAtMost-within : {a b : DeviceState} {few most : ℕ} → few ≤ most → ReadsAtMost a b few → ReadsAtMost a b most
 ReadsAtMost-within le reads = grind arith
 
--- both within one bound
+-- two calls in a row take at most what both may take together
 pub ReadsAtMost-both : {a b c : DeviceState} {few more most : ℕ} → ReadsAtMost a b few → ReadsAtMost b c more → few + more ≤ most → ReadsAtMost a c most
 ReadsAtMost-both first second le = ReadsAtMost-within le (ReadsAtMost-then first second)
 

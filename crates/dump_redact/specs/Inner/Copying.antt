@@ -36,7 +36,7 @@ HasUpto now upto = IsOpen now × (upto ≤ size_of now)
 abbrev pub piece_size : List ℕ → ℕ → ℕ → ℕ
 piece_size buffer from upto = min (length buffer) (upto - from)
 
--- that piece of the bytes of a dump
+-- the first piece of the bytes of a dump between two offsets
 abbrev pub first_piece : List ℕ → ℕ → ℕ → List ℕ → List ℕ
 first_piece buffer from upto dump = between from (from + piece_size buffer from upto) dump
 
@@ -56,7 +56,7 @@ pub record Copies {T : Type 0} (before after : DeviceState) (sink sink' : SinkSt
   pub writes : IfTold before.now (λ dump. WritesAll sink.written sink'.written (text dump) result)
   pub fault : IfErr result (IsBreak before after sink sink')
 
--- what several such successful calls have done
+-- what several successful calls that copy have done, as the invariant of a loop states it
 pub record HasCopied (before after : DeviceState) (sink sink' : SinkState) (most : ℕ) (text : List ℕ → List ℕ) : Type 0 where
   pub reads : ReadsAtMost before after most
   pub later : sink.faults ≤ sink'.faults

@@ -37,7 +37,7 @@ offset_of index i = next_at (slice_get index.headers i) index.size
 abbrev pub length_between : Contents → ℕ → ℕ → ℕ
 length_between index i next = offset_of index next - offset_of index i
 
--- those bytes of a dump
+-- the bytes of a dump in the sections from one place up to another
 abbrev pub text_between : Contents → ℕ → ℕ → List ℕ → List ℕ
 text_between index i next dump = between (offset_of index i) (offset_of index next) dump
 
@@ -67,7 +67,7 @@ redacted_at index section from piece =
 abbrev pub Begins : List ℕ → List ℕ → Type 0
 Begins piece body = piece ≡ take (length piece) body
 
--- it has the whole number and its colon, if the body begins so, or it is the whole body
+-- the piece has the whole number with which the body begins and its colon, if it begins so, or it is the whole body
 abbrev pub HasLead : List ℕ → List ℕ → Type 0
 HasLead piece body = (17 ≤ length piece) ⊎ (length piece ≡ length body)
 

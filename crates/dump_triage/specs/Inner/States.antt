@@ -19,7 +19,7 @@ counted counts text = get_by (λ key. slice_cmp nat_cmp text key.now) counts
 pub record AreCounted (counts : BTreeMap (Bor (List ℕ)) ℕ) (texts : List (List ℕ)) : Type 0 where
   pub each : (text : List ℕ) → counted counts text ≡ unless_zero (text_count texts text)
 
--- the same, without the texts that occur before a place
+-- the tree has for each text how often it occurs among these, but nothing for the texts that occur before a place
 pub record AreLeft (counts : BTreeMap (Bor (List ℕ)) ℕ) (texts : List (List ℕ)) (place : ℕ) : Type 0 where
   pub each : (text : List ℕ)
       → counted counts text ≡ (if nat_lt 0 (text_count (take place texts) text) then None else unless_zero (text_count texts text))

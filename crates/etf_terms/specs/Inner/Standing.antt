@@ -13,11 +13,11 @@ use Rattle.etf_terms.specs.Inner.Open.{Open}
 abbrev pub entry_of : Head → Entry
 entry_of head = record { kind = terms_kind head; kids = kids head; next = 0 }
 
--- the entries, with it in front if it has terms
+-- the entries, with that of a head in front if the head has terms
 abbrev pub entered : Head → List Entry → List Entry
 entered head entries = if kids head == 0 then entries else entry_of head ∷ entries
 
--- what closes it at once, if it has none
+-- what closes a head at once, if it has no terms
 abbrev pub ended : Head → List ℕ
 ended head = if kids head == 0 then closing (terms_kind head) (kids head) else []
 

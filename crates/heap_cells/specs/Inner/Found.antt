@@ -45,6 +45,6 @@ pub record IsReadInto (text : List ℕ) (from most : ℕ) (found : Option (List 
   pub places : All (IsSpelling text) read
   pub pushed : Pushes from most read old new
 
--- they were, and their slots were added to a vector
+-- some elements of a text were read and their slots added to a vector; if the text spells these elements, they are all
 abbrev pub IsReadTo : List ℕ → ℕ → ℕ → Option (List Element) → Vec Slot → Vec Slot → Type 0
 IsReadTo text from most found old new = IsReadInto text from most found old.items new.items

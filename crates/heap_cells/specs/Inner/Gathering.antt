@@ -55,7 +55,7 @@ pub record Leads (text : List ℕ) (enc : Enc) (g : Gathering) (rest all : List 
   -- if there are no more lines and elements than the limit, the records of all are kept
   pub kept : g.weight ≤ g.dense → cells_in text enc g.arena.cells.items ++ rest ≡ all
 
--- that of the cells of two bodies
+-- the lines that were gathered of two bodies, followed by these cells of the remaining lines, are all cells
 abbrev pub LeadsIn : Texts → Gathering → List Cell → List Cell → Type 0
 LeadsIn texts g rest all = Leads (text_of texts) texts.enc g rest all
 

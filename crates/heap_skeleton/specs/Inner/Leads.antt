@@ -28,20 +28,20 @@ mark lead.Nowhere = nowhere
 mark (lead.Cell address) = 0
 mark (lead.Binary address) = 1
 
--- the address, if it has one
+-- the address of an element's lead, if it has one
 abbrev pub reference : Lead → List ℕ
 reference lead.Nowhere = []
 reference (lead.Cell address) = address ∷ []
 reference (lead.Binary address) = address ∷ []
 
--- of each element, in order
+-- the marks of where elements lead, in order
 abbrev pub marks : List Lead → List ℕ
 marks leads = map mark leads
 
 abbrev pub references : List Lead → List ℕ
 references leads = flat_map reference leads
 
--- these were appended
+-- these leads were appended: their marks, and the addresses of those that have one
 pub record Pushes (old new : Leads) (leads : List Lead) : Type 0 where
   pub marks : new.marks.items ≡ old.marks.items ++ marks leads
   pub references : new.references.items ≡ old.references.items ++ references leads

@@ -18,7 +18,7 @@ use Rattle.cell_words.specs.Words.{words_in}
 abbrev pub read_of : Option HeapForm → Read
 read_of form = record { kind = option_map kind_of form; words = words_in form }
 
--- those of a form of this kind without a payload, if its elements behind the first so many are read
+-- the kind and the words of a form of this kind without a payload, if its elements behind the first so many are read
 abbrev pub read_with : Kind → ℕ → Option (List Element) → Read
 read_with kind before es = record {
   kind = option_map (λ _. kind) es;
@@ -29,7 +29,7 @@ read_with kind before es = record {
 abbrev pub spelled_leads : Enc → List ℕ → Option (List Lead)
 spelled_leads enc text = option_map (λ form. leads_in (Some form)) (form_of enc text)
 
--- some were appended: if these are known, they are these
+-- some leads were appended: the known ones, if they are known
 pub record PushesRead (old new : Leads) (known : Option (List Lead)) : Type 0 where
   pub leads : List Lead
   pub pushed : Pushes old new leads

@@ -36,7 +36,7 @@ shown_skeleton own parts kinds leads = record {
   leads = leads_from parts leads;
 }
 
--- what holds of its parts
+-- what holds of the parts of a skeleton
 pub record IsSound (own : ℕ) (parts : List CellPart) (kinds : List (Option Kind)) (leads order : List ℕ) : Type 0 where
   pub few : length parts < 2 ^ 32
   pub own_few : own ≤ length parts

@@ -26,3 +26,13 @@ led_to addresses kinds (lead.Binary address) = option_and_then (bin_with kinds) 
 -- the number that stands for it
 abbrev pub resolved : List ℕ → List (Option Kind) → Lead → ℕ
 resolved addresses kinds l = unwrap_or (led_to addresses kinds l) nowhere
+
+-- where an element leads that has an address: to any cell with it, or to a heap binary alone
+abbrev pub lead_to : Bool → ℕ → Lead
+lead_to false address = lead.Cell address
+lead_to true address = lead.Binary address
+
+-- the number that stands for the cell that was found for such an element
+abbrev pub number_for : List (Option Kind) → Bool → Option ℕ → ℕ
+number_for kinds false found = unwrap_or found nowhere
+number_for kinds true found = unwrap_or (option_and_then (bin_with kinds) found) nowhere

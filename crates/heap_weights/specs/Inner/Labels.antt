@@ -22,11 +22,11 @@ is_stop part Nobody = false
 is_stop part Several = true
 is_stop part (Part other) = other == part
 
--- whether it leads no further from the cell
+-- whether the walk of the current part leads no further from the cell with a number
 abbrev pub is_stopped : Labelling → ℕ → Bool
 is_stopped labels n = is_stop labels.part (holder_at labels.holders n)
 
--- the cells from which it leads no further, as marks
+-- the cells from which the walk of a part leads no further, as marks
 abbrev pub marks_of : ℕ → List Holder → List Bool
 marks_of part holders = map (is_stop part) holders
 

@@ -12,10 +12,10 @@ pub record Parts : Type 0 where
   pub found : List Finding
   pub state : List ℕ
 
--- these as one value
+-- the processes, what was found of them, and the text on the state of the dump, as one value
 abbrev pub parts : List Process → List Finding → List ℕ → Parts
 parts processes found state = record { processes = processes; found = found; state = state }
 
--- the tree of these
+-- the tree of the findings among the processes, with the state of the dump
 abbrev pub tree_of : Parts → Data
 tree_of p = tree_object (length p.found) (items_of (map (finding_object p.processes) p.found)) p.state

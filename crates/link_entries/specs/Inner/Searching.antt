@@ -15,7 +15,7 @@ abbrev pub IsFirst : ℕ → List ℕ → Option ℕ → Type 0
 IsFirst byte text place =
     MatchOption place (Nowhere byte text 0 (length text)) (λ k. (k < length text) × Nowhere byte text 0 k × Holds byte text k)
 
--- the last such place, if there is one
+-- the last place of this byte, if there is one
 abbrev pub IsLast : ℕ → List ℕ → Option ℕ → Type 0
 IsLast byte text place =
     MatchOption place (Nowhere byte text 0 (length text)) (λ k. (k < length text) × Nowhere byte text (k + 1) (length text) × Holds byte text k)

@@ -13,22 +13,22 @@ use Rattle.part_weights.specs.Inner.Shown.{IsOver}
 abbrev pub IsReady : RootParts → Type 0
 IsReady roots = IsOver roots.skeleton.now roots.parts
 
--- whatever elements made the parts before, these came behind them
+-- whatever elements made the parts before, these elements came behind them
 abbrev pub GainsElements : CellParts → CellParts → List PartElement → Type 0
 GainsElements old new more = (elements : List PartElement) → ArePartsOf elements old → ArePartsOf (elements ++ more) new
 
--- so did the elements of these roots
+-- the elements of these roots came behind those that made the parts before
 pub record Gains (old new : RootParts) (roots : List BodyRoot) : Type 0 where
   pub skeleton : new.skeleton ≡ old.skeleton
   pub parts : GainsElements old.parts new.parts (roots_elements old.skeleton.now.addresses roots)
 
--- so did those of the roots in a section of what is open
+-- the elements of the roots in a section of what is open came behind those that made the parts before
 pub record GainsSection (now : Now) (kind : RootKind) (found : Option Section) (old new : RootParts) : Type 0 where
   pub skeleton : new.skeleton ≡ old.skeleton
   pub parts : IfTold now (λ dump. GainsElements old.parts new.parts
       (roots_elements old.skeleton.now.addresses (roots_at dump kind found)))
 
--- so did those of all roots of the process with this pid
+-- the elements of all roots of the process with this pid came behind those that made the parts before
 pub record GainsAll (now : Now) (sections : List Section) (pid : List ℕ) (old new : RootParts) : Type 0 where
   pub skeleton : new.skeleton ≡ old.skeleton
   pub parts : IfTold now (λ dump. GainsElements old.parts new.parts

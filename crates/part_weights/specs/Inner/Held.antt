@@ -9,10 +9,10 @@ use Rattle.part_weights.specs.declared.held_parts.HeldPart.{HeldPart}
 abbrev pub held_part : ℕ × Weight → Option HeldPart
 held_part (part, weight) = if nat_lt 0 weight.cells then Some (record { part = part; weight = weight }) else None
 
--- those of parts that alone hold this
+-- the parts that alone hold a cell, where this is what each part alone holds
 abbrev pub held_parts : List Weight → List HeldPart
 held_parts alone = filter_map held_part (enumerate_from 0 alone)
 
--- those with the most words first
+-- the parts that alone hold a cell, those with the most words first
 abbrev pub sorted_parts : List Weight → List HeldPart
 sorted_parts alone = most_first (λ held. held.weight.words) (held_parts alone)

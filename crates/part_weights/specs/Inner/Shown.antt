@@ -16,11 +16,11 @@ no_part = record { cell = 0; elements = 0; at = 0; label = [] }
 abbrev pub row_at : SkeletonMap → List CellPart → HeldPart → Row
 row_at heap parts held = row_of heap (slice_index_or parts held.part no_part, held.weight)
 
--- those of several
+-- the rows of parts that alone hold a cell
 abbrev pub rows_at : SkeletonMap → List CellPart → List HeldPart → List Row
 rows_at heap parts held = map (row_at heap parts) held
 
--- what they hold beside all that is reached
+-- a weighing with these parts, of which those that alone hold a cell have rows, and with these sums
 abbrev pub weighing_with : SkeletonMap → CellParts → List HeldPart → Option Weight → Weight → Weight → Weight → Weighing
 weighing_with heap parts held within shared reached own = record {
   rows = rows_at heap parts.parts held;
@@ -37,7 +37,7 @@ pub record IsOver (heap : SkeletonMap) (parts : CellParts) : Type 0 where
   pub addresses : parts.cells ≡ length heap.addresses
   pub leads : parts.cells ≡ length heap.leads
 
--- so they are, and those that hold a cell are some of them
+-- the parts are of as many cells as the skeleton has, and those that alone hold a cell are some of them
 pub record IsSound (heap : SkeletonMap) (parts : CellParts) (held : List HeldPart) : Type 0 where
   pub over : IsOver heap parts
   pub within : All (λ h. h.part < length parts.parts) held

@@ -35,12 +35,13 @@ pub record Takes (old new : FrameSink) (texts : List (List ℕ)) : Type 0 where
   pub left : new.left + length texts ≡ old.left
   pub lines : new.lines.items ≡ old.lines.items ++ frame_lines texts
 
--- these were taken, and no more are wanted; memory may be lacking at any time
+-- these infos were taken as frames, and no more are wanted; memory may be lacking at any time
 abbrev pub StopsTaking : FrameSink → FrameSink → List (List ℕ) → Stop → Type 0
 StopsTaking old new texts Full = Takes old new texts × (new.left ≡ 0)
 StopsTaking old new texts NoMemory = Unit {0}
 
--- so it was at one of these raw lines
+-- taking the infos of raw lines stopped at one of them: those up
+-- to it were taken and no more are wanted, or memory was lacking
 pub record StopsWithin (old new : FrameSink) (raws : List (List ℕ)) (stop : Stop) : Type 0 where
   pub heard : List (List ℕ)
   pub rest : List (List ℕ)
@@ -51,7 +52,7 @@ pub record StopsWithin (old new : FrameSink) (raws : List (List ℕ)) (stop : St
 abbrev pub TakesLines : FrameSink → FrameSink → List Line → Type 0
 TakesLines old new lines = Takes old new (line_infos lines)
 
--- so they were, and no more are wanted
+-- the infos of these lines were taken as frames, and no more are wanted; memory may be lacking at any time
 abbrev pub StopsAt : FrameSink → FrameSink → List Line → Stop → Type 0
 StopsAt old new lines stop = StopsTaking old new (line_infos lines) stop
 

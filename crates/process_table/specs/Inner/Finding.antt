@@ -32,7 +32,7 @@ named_places places = map (λ place. (place.pid.items, place.section)) places
 abbrev pub sections_of : List PidPlace → List ℕ
 sections_of places = map (λ place. place.section) places
 
--- whether it is the place of a pid
+-- whether a place is that of a section with this pid
 abbrev pub has_pid : List ℕ → PidPlace → Bool
 has_pid pid place = bytes_eq pid place.pid.items
 

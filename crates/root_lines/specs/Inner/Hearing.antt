@@ -26,7 +26,7 @@ pub record Takes (old new : RootSink) (roots : List BodyRoot) : Type 0 where
   pub kept : kept_all new.kept ≡ kept_all old.kept
       ++ some_of (old.first - old.count) (old.most - length old.kept.roots.items) roots
 
--- so were the roots of these lines
+-- the roots of these lines were counted, and those of them kept that are asked for
 abbrev pub TakesLines : RootSink → RootSink → List Line → Type 0
 TakesLines old new lines = Takes old new (roots_of_lines old.kept.kind lines)
 

@@ -11,7 +11,7 @@ use Rattle.root_lines.specs.declared.kept_roots.KeptRoots.{KeptRoots}
 abbrev pub counted_from : ℕ → BodyRoot → BodyRoot
 counted_from from root = record root { at = root.at - from }
 
--- so are these
+-- the roots with their offsets in the file counted from another offset there
 abbrev pub all_counted_from : ℕ → List BodyRoot → List BodyRoot
 all_counted_from from roots = map (counted_from from) roots
 
@@ -38,7 +38,7 @@ pub record IsKept (kind : RootKind) (lines : List ℕ) (one : KeptRoot) : Type 0
   pub stands : one.place < length (roots_in kind (kept_line lines one))
   pub small : one.at < 2 ^ 64
 
--- so does each
+-- each kept root stands in its line, which is kept, and its offset is a number of 64 bits
 pub record AreKept (kept : KeptRoots) : Type 0 where
   pub each : All (IsKept kept.kind kept.lines.items) kept.roots.items
 
@@ -48,7 +48,7 @@ pub record HasLine (lines : List ℕ) (start upto : ℕ) (raw : List ℕ) : Type
   pub within : upto ≤ length lines
   pub stands : between start upto lines ≡ raw
 
--- these roots were kept besides
+-- these roots were kept behind those that were there
 pub record Keeps (old new : KeptRoots) (roots : List BodyRoot) : Type 0 where
   pub kind : new.kind ≡ old.kind
   pub all : kept_all new ≡ kept_all old ++ roots

@@ -8,8 +8,8 @@ use Rattle.dump_sections.specs.Sections.{Section, section, tag_of, id_of}
 abbrev pub shown_section : LentSection → Section
 shown_section s = section s.at s.body s.end s.text.now
 
--- its tag and id are those of its header's text, which its line contains;
--- that line isn't too long, and the section ends within the largest dump
+-- the lent tag and id are those of the header's text, which the header's line
+-- contains; that line isn't too long, and the section ends within the largest dump
 pub record IsLent (s : LentSection) : Type 0 where
   pub tag : s.tag.now ≡ tag_of s.text.now
   pub id : option_copied s.id ≡ id_of s.text.now

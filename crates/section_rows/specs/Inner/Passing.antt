@@ -42,7 +42,7 @@ pub record IsSettled (s : Section) (body : List ℕ) (column : Column) (left : L
   pub value : column_cell s body column ≡ option_or cell (later_cell s.body left column)
   pub room : HasRoom s.at cell
 
--- so it is for each column
+-- each cell is that of its column, or is still to come from the lines that are left
 pub record AreSettled (s : Section) (body : List ℕ) (columns : List LentColumn) (left : List TextLine) (cells : List (Option LentKept)) : Type 0 where
   pub count : length cells ≡ length columns
   pub each : (k : ℕ) → k < length columns → IsSettled s body (shown_column (get_or columns k Tag)) left (shown_cell (get_or cells k None))

@@ -8,10 +8,10 @@ use Rattle.stored_binaries.specs.declared.leads.Lead.{Lead}
 abbrev pub led_by : List ℕ → Lead → ℕ × List ℕ
 led_by body lead = (lead.length, drop lead.chars body)
 
--- this is the beginning of the body, if it has such a one
+-- this is how the body begins, with a length, or `None` if it begins with none
 abbrev pub IsLeadOf : List ℕ → Option Lead → Type 0
 IsLeadOf body lead = option_map (led_by body) lead ≡ led_of body
 
--- it ends within this many bytes
+-- the lead of a body, if it has one, ends within this many bytes
 abbrev pub IsLeadWithin : ℕ → Option Lead → Type 0
 IsLeadWithin size lead = IfSome lead (λ lead. lead.chars ≤ size)

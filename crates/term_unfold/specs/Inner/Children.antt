@@ -87,11 +87,11 @@ pub record IsChildAt (heap : List Cell) (children : List Child) (next most : ℕ
   pub placed : IfSome found (IsChild heap)
   pub few : IfSome found (λ _. next < most)
 
--- it is one of the children of a cell, by what that is in the walk
+-- a child that was asked for by its place is that one of the children of a cell, by what the cell is in the walk
 abbrev pub IsChildIn : HeapMap → NodeKind → CellIx → ℕ → ℕ → Option PlacedChild → Type 0
 IsChildIn heap kind ix next most found = IsChildAt heap.cells (children_in heap kind ix) next most found
 
--- it is one of the children of a flat map whose keys are in another cell
+-- a child that was asked for by its place is that one of the children of a flat map whose keys are in another cell
 abbrev pub IsKeyedChild : HeapMap → CellIx → CellIx → ℕ → ℕ → Option PlacedChild → Type 0
 IsKeyedChild heap keys ix next most found = IsChildAt heap.cells (keyed_children heap keys ix) next most found
 

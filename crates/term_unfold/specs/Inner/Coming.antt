@@ -26,7 +26,7 @@ abbrev pub to_come : List Cell → List Entry → List Tree
 to_come heap [] = []
 to_come heap (e ∷ es) = pre_all (left_of heap e es) ++ to_come heap es
 
--- these with the nodes of a child of the innermost cell before them
+-- the nodes of a child of the innermost cell, and behind them those that are still to come
 abbrev pub coming_with : List Cell → List Entry → Child → List Tree
 coming_with heap entries child = pre (unfolded heap (path_of heap entries) child) ++ to_come heap entries
 

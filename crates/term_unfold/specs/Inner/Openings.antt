@@ -66,7 +66,7 @@ pub record IsLeafCell (heap : List Cell) (n : ℕ) : Type 0 where
   pub form_is : form_at heap n ≡ Some form
   pub is_leaf : is_leaf_form form ≡ true
 
--- a child that opens such a cell
+-- a child opens the cell with a number, which is a leaf
 pub record IsLeafAt (heap : List Cell) (path : List ℕ) (child : Child) (n : ℕ) : Type 0 where
   pub at : IsLeafCell heap n
   pub opens : opening heap path child ≡ leaf (OfCell (address_of heap n) at.form)

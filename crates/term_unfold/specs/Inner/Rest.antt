@@ -165,6 +165,7 @@ pub record IsTurn (heap : List Cell) (before after : List Entry) (child : Child)
   pub more : length after ≤ length before + 1
   pub own : HasOwn heap child turn.own
 
--- such a turn at a child of an open cell
+-- with one more node to write, at a child of an open cell, the open
+-- cells write what the turn says, and then what is open after it writes
 abbrev pub TurnsAt : HeapMap → Entered → Entered → PlacedChild → Turn → Type 0
 TurnsAt heap before after child turn = IsTurn heap.cells before.entries after.entries (child_shown heap.cells child) turn

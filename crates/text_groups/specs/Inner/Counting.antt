@@ -14,7 +14,7 @@ abbrev pub tally : List Item → Option Tally
 tally [] = None
 tally (item ∷ items) = Some (record { count = length (item ∷ items); weight = capped (sum_by (λ i. i.weight) (item ∷ items)) })
 
--- a tally, or that of none
+-- a tally, or the tally of no items
 abbrev pub tally_or_none : Option Tally → Tally
 tally_or_none found = unwrap_or found (record { count = 0; weight = 0 })
 
@@ -26,7 +26,7 @@ tallied tallies text = get_by (λ key. slice_cmp nat_cmp text key.now) tallies
 pub record AreTallied (tallies : BTreeMap (Bor (List ℕ)) Tally) (items : List Item) : Type 0 where
   pub each : (text : List ℕ) → tallied tallies text ≡ tally (members text items)
 
--- the same, without the texts of the first items
+-- the tree has for each text the tally of the items that have it, but none for the texts of the first items
 pub record AreLeft (tallies : BTreeMap (Bor (List ℕ)) Tally) (items : List Item) (first : ℕ) : Type 0 where
   pub each : (text : List ℕ)
       → tallied tallies text ≡ (if list_any (has_text text) (take first items) then None else tally (members text items))

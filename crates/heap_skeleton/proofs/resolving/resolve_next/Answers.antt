@@ -1,23 +1,28 @@
-use Rattle.std.proofs.Common.{refl, sym, subst}
+use Rattle.std.proofs.Common.{◌+◌, refl, sym, ◌∙◌, ap, subst}
+use Rattle.std.specs.Prelude.{Some}
 use Rattle.heap_skeleton.specs.Inner.Held.{addresses_of}
-use Rattle.heap_skeleton.specs.Inner.Resolving.{ResolvesNext}
-use Rattle.heap_skeleton.proofs.ResolveFacts.{resolving-set, resolving-skip, resolving-some}
+use Rattle.heap_skeleton.specs.Inner.Resolving.{IsResolving}
+use Rattle.heap_skeleton.specs.Inner.Targets.{resolved}
+use Rattle.heap_skeleton.proofs.ResolveFacts.{address-read, found-resolved, resolving-far, resolving-set, resolving-skip}
 use Rattle.heap_skeleton.proofs.resolving.resolve_next.Goals as goal
 
 pub returns-then-mark : goal.returns-then-mark
-returns-then-mark c = λ leads so_far.
-    resolving-skip (addresses_of c.args.parts.now) c.args.kinds.now leads c.args.i c.args.marks.now c.args.references.now 0 c.requires.place c.if-mark.true so_far
+returns-then-mark c = λ leads before.
+    resolving-skip (addresses_of c.args.parts.now) c.args.kinds.now leads c.args.i c.args.numbers.now c.args.references.now c.args.far.now c.requires.place before 0 c.if-mark.true
 
-pub returns-in_err-address : goal.returns-in_err-address
-returns-in_err-address c =
+pub returns-in_default-find : goal.returns-in_default-find
+returns-in_default-find c = λ leads before.
     let xs = addresses_of c.args.parts.now in
-    let kinds = c.args.kinds.now in
-    let marks = c.args.marks.now in
-    let references = c.args.references.now in
-    subst (ResolvesNext xs kinds c.args.i marks references marks) (sym c.from_residual.ensures)
-    (λ leads so_far. resolving-some xs kinds leads c.args.i marks references _ c.requires.place refl c.if-mark.false c.in_err-address.ensures.cases so_far)
+    let read = address-read xs c.args.kinds.now leads c.args.i c.args.numbers.now c.args.references.now c.args.far.now c.requires.place before _ c.in-Some.address.now c.in-Some.behind.now
+    refl c.if-mark.false c.in-Some.ensures.cases.0 in
+    subst (λ f. IsResolving xs c.args.kinds.now leads (c.args.i + 1) c.args.numbers.now c.in-Some.behind.now f) (sym c.in_ok-push.ensures)
+    (resolving-far xs c.args.kinds.now leads c.args.i c.args.numbers.now c.args.references.now c.args.far.now c.requires.place before _ c.in-Some.address.now c.in-Some.behind.now read.0 read.1)
 
 pub returns : goal.returns
-returns c = λ leads so_far.
-    resolving-set (addresses_of c.args.parts.now) c.args.kinds.now leads c.args.i c.args.marks.now c.args.references.now _ c.in_ok-address.address.now c.resolve_one.result c.in_ok-address.behind.now _
-    c.requires.place refl c.if-mark.false c.in_ok-address.ensures.cases.0 c.resolve_one.ensures refl so_far
+returns c = λ leads before.
+    let xs = addresses_of c.args.parts.now in
+    let kinds = c.args.kinds.now in
+    let read = address-read xs kinds leads c.args.i c.args.numbers.now c.args.references.now c.args.far.now c.requires.place before _ c.in-Some.address.now c.in-Some.behind.now
+    refl c.if-mark.false c.in-Some.ensures.cases.0 in
+    resolving-set xs kinds leads c.args.i c.args.numbers.now c.args.references.now c.args.far.now c.requires.place before c.number_for.result c.in-Some.behind.now
+    (c.number_for.ensures ∙ found-resolved xs kinds _ c.in-Some.address.now (Some c.in-Some-find.number) (sym c.in-Some-find.ensures) ∙ ap (resolved xs kinds) (sym read.0)) read.1

@@ -9,22 +9,22 @@ pub invariant_of-result : goal.invariant_of-result
 invariant_of-result c =
     let held = c.args.ordered.settled.held in
     let own = c.args.ordered.settled.own in
-    let numbers = c.resolve_leads-numbers.result.items in
+    let numbers = c.in_ok-numbers.numbers.items in
     let order = c.in_ok-order.order.items in
     let sound = sound-lines own c.requires.holds.lines held numbers order c.requires.holds.held_is c.requires.small c.requires.own
     (c.in_ok-order.ensures.order (addresses_of held.parts.items) c.requires.ranked)
-    (λ ls a b. c.resolve_leads-numbers.ensures ls a b ∙ ap₂ (λ p k. map (resolved (addresses_of p) k) ls) c.deref.ensures.value c.deref-2.ensures.value) in
+    (λ ls a b. c.in_ok-numbers.ensures ls a b ∙ ap₂ (λ p k. map (resolved (addresses_of p) k) ls) c.deref.ensures.value c.deref-2.ensures.value) in
     subst (λ k. IsSound own c.shrink_to_fit.new.self.items k numbers order) (sym c.shrink_to_fit-2.ensures.items)
     (subst (λ p. IsSound own p held.kinds.items numbers order) (sym c.shrink_to_fit.ensures.items) sound)
 
 pub returns-clause-cells : goal.returns-clause-cells
-returns-clause-cells c = leads-addresses c.shrink_to_fit.new.self.items c.resolve_leads-numbers.result.items
+returns-clause-cells c = leads-addresses c.shrink_to_fit.new.self.items c.in_ok-numbers.numbers.items
 
 pub returns-clause-lines : goal.returns-clause-lines
 returns-clause-lines c = λ lines is.
     let held = c.args.ordered.settled.held in
     let own = c.args.ordered.settled.own in
-    let numbers = c.resolve_leads-numbers.result.items in
+    let numbers = c.in_ok-numbers.numbers.items in
     ap₂ (λ p k. shown_skeleton own p k numbers) c.shrink_to_fit.ensures.items c.shrink_to_fit-2.ensures.items
     ∙ shown-lines own lines held numbers is c.requires.small
-    (λ ls a b. c.resolve_leads-numbers.ensures ls a b ∙ ap₂ (λ p k. map (resolved (addresses_of p) k) ls) c.deref.ensures.value c.deref-2.ensures.value)
+    (λ ls a b. c.in_ok-numbers.ensures ls a b ∙ ap₂ (λ p k. map (resolved (addresses_of p) k) ls) c.deref.ensures.value c.deref-2.ensures.value)

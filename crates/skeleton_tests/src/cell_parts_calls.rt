@@ -1,46 +1,27 @@
 // The elements of cells, and the parts that these make.
 
+use crate::heap_skeleton_calls::skeleton_in;
 use cell_parts::{Kinded, Parts, add_elements};
-use dump_io::{Limits, MemDumps};
-use heap_cells::{Heap, Seat};
-use section_index::build;
+use heap_skeleton::Skeleton;
 use std::alloc::{AllocError, Global};
 use std::process::Abort;
 use std::test::Fail;
 
-// The heap in the dump of a process with these lines as its heap and as the literals.
-fn heap_in(alloc: Global, heap: &str, literals: &str) -> Result<Heap, Fail> {
-    let text = format!(in alloc;
-        "=erl_crash_dump:0.5\n=proc_heap:<0.1.0>\n{heap}=literals\n{literals}"
-    )?;
-    let mut dumps = MemDumps::holding(alloc, "V", text.as_bytes(), &[], &[])?;
-    let index = build(alloc, &mut dumps, "V", &Limits::usual())?;
-    Ok(Heap::load(alloc, &mut dumps, &index, b"<0.1.0>", &Limits::usual())?)
-}
-
-// The number of the cell with an address, if there is one.
-fn cell_at(heap: &Heap, addr: u64) -> Option<u32> {
-    match heap.at(addr) {
-        Seat::Missing => None,
-        Seat::Malformed(ix) | Seat::Cell(ix) => Some(ix.number()),
-    }
-}
-
 // The address of the cell with a number.
-fn addr_of(heap: &Heap, cell: u32) -> u64 {
-    if cell < heap.cells() {
-        heap.addr(heap.cell(cell))
+fn addr_of(skeleton: &Skeleton, cell: u32) -> u64 {
+    if cell < skeleton.cells() {
+        skeleton.addr(cell)
     } else {
         0
     }
 }
 
 // How many elements there are; and of each part its address, how many elements lead to it, and where the first stands.
-fn draw(alloc: Global, heap: &Heap, parts: &Parts) -> Result<Vec<u8>, AllocError> {
+fn draw(alloc: Global, skeleton: &Skeleton, parts: &Parts) -> Result<Vec<u8>, AllocError> {
     let mut out = Vec::new(alloc);
     out.extend_from_slice(format!(in alloc; "{}", parts.total())?.as_bytes())?;
     for part in 0..parts.len() {
-        let addr = addr_of(heap, parts.cell(part));
+        let addr = addr_of(skeleton, parts.cell(part));
         let text = format!(in alloc; " {addr:X}*{}@{}", parts.elements(part), parts.at(part))?;
         out.extend_from_slice(text.as_bytes())?;
         out.extend_from_slice(parts.label(part))?;
@@ -59,11 +40,17 @@ fn parts_of<G: Kinded>(alloc: Global, graph: &G, cell: u32) -> Result<Parts, All
 }
 
 // The elements of a cell make these parts.
-fn makes(rt: &impl Abort, alloc: Global, heap: &Heap, addr: u64, parts: &str) -> Result<(), Fail> {
-    let Some(cell) = cell_at(heap, addr) else {
+fn makes(
+    rt: &impl Abort,
+    alloc: Global,
+    skeleton: &Skeleton,
+    addr: u64,
+    parts: &str,
+) -> Result<(), Fail> {
+    let Some(cell) = skeleton.find(addr) else {
         return Err(Fail::from("no cell has the address"));
     };
-    let found = draw(alloc, heap, &parts_of(alloc, heap, cell)?)?;
+    let found = draw(alloc, skeleton, &parts_of(alloc, skeleton, cell)?)?;
     assert_eq!(rt; found.as_slice(), parts.as_bytes());
     Ok(())
 }
@@ -87,45 +74,45 @@ const OTHERS: &str =
 #[test]
 fn the_elements_of_a_list_are_its_heads_and_the_last_tail(rt: HostRuntime) -> Result<(), Fail> {
     let alloc = rt.alloc();
-    let heap = heap_in(alloc, LISTS, "")?;
-    makes(&rt, alloc, &heap, 0x10, "4 11*1@0- 19*1@1-")?;
-    makes(&rt, alloc, &heap, 0x30, "3 31*1@0- 39*1@1- 30*1@2-")?;
-    makes(&rt, alloc, &heap, 0x50, "2 51*1@0- 58*1@1-")?;
-    makes(&rt, alloc, &heap, 0x80, "2 81*1@1-")?;
-    makes(&rt, alloc, &heap, 0xA0, "4 A1*3@0-")?;
-    makes(&rt, alloc, &heap, 0x81, "0")
+    let skeleton = skeleton_in(alloc, "0.5", LISTS, "")?;
+    makes(&rt, alloc, &skeleton, 0x10, "4 11*1@0- 19*1@1-")?;
+    makes(&rt, alloc, &skeleton, 0x30, "3 31*1@0- 39*1@1- 30*1@2-")?;
+    makes(&rt, alloc, &skeleton, 0x50, "2 51*1@0- 58*1@1-")?;
+    makes(&rt, alloc, &skeleton, 0x80, "2 81*1@1-")?;
+    makes(&rt, alloc, &skeleton, 0xA0, "4 A1*3@0-")?;
+    makes(&rt, alloc, &skeleton, 0x81, "0")
 }
 
 #[test]
 fn the_elements_of_a_map_stand_below_its_nodes(rt: HostRuntime) -> Result<(), Fail> {
     let alloc = rt.alloc();
-    let heap = heap_in(alloc, MAPS, "")?;
+    let skeleton = skeleton_in(alloc, "0.5", MAPS, "")?;
     let found = "10 111*2@0- 120*3@1- 171*1@2- 150*1@3- 140*1@5- 170*1@6-";
-    makes(&rt, alloc, &heap, 0x100, found)?;
-    makes(&rt, alloc, &heap, 0x200, "5 200*2@0- 220*2@2- 210*1@3-")?;
-    makes(&rt, alloc, &heap, 0x500, "2 510*2@0-")
+    makes(&rt, alloc, &skeleton, 0x100, found)?;
+    makes(&rt, alloc, &skeleton, 0x200, "5 200*2@0- 220*2@2- 210*1@3-")?;
+    makes(&rt, alloc, &skeleton, 0x500, "2 510*2@0-")
 }
 
 #[test]
 fn a_sub_binary_has_an_element_if_it_leads_to_a_cell(rt: HostRuntime) -> Result<(), Fail> {
     let alloc = rt.alloc();
-    let heap = heap_in(alloc, OTHERS, "110:Yh1:AA==\n")?;
-    makes(&rt, alloc, &heap, 0x10, "3 20*1@0- 30*2@1-")?;
-    makes(&rt, alloc, &heap, 0x80, "1 90*1@0-")?;
-    makes(&rt, alloc, &heap, 0xA0, "0")?;
-    makes(&rt, alloc, &heap, 0xF0, "1 110*1@0-")
+    let skeleton = skeleton_in(alloc, "0.5", OTHERS, "110:Yh1:AA==\n")?;
+    makes(&rt, alloc, &skeleton, 0x10, "3 20*1@0- 30*2@1-")?;
+    makes(&rt, alloc, &skeleton, 0x80, "1 90*1@0-")?;
+    makes(&rt, alloc, &skeleton, 0xA0, "0")?;
+    makes(&rt, alloc, &skeleton, 0xF0, "1 110*1@0-")
 }
 
 #[test]
 fn a_part_has_the_place_of_the_first_element(rt: HostRuntime) -> Result<(), Fail> {
     let alloc = rt.alloc();
-    let heap = heap_in(alloc, "10:t0:\n20:t0:\n", "")?;
+    let skeleton = skeleton_in(alloc, "0.5", "10:t0:\n20:t0:\n", "")?;
     let mut parts = Parts::new(alloc, 2)?;
     parts.add(Some(1), 73, b"y0")?;
     parts.add(None, 78, b"y1")?;
     parts.add(Some(0), 83, b"")?;
     parts.add(Some(1), 154, b"m")?;
-    let found = draw(alloc, &heap, &parts)?;
+    let found = draw(alloc, &skeleton, &parts)?;
     assert_eq!(&rt; found.as_slice(), b"4 20*2@73y0 10*1@83".as_slice());
     assert_eq!(&rt; parts.cells(), [1_u32, 0].as_slice());
     Ok(())

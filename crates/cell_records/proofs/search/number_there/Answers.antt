@@ -1,6 +1,6 @@
 use Rattle.std.proofs.Common.{ℕ, sym, ◌∙◌, ap, arith}
 use Rattle.cell_records.proofs.OrderFacts.{none-there, number-there, other-address}
-use Rattle.cell_records.proofs.ranks.number_there.Goals as goal
+use Rattle.cell_records.proofs.search.number_there.Goals as goal
 
 pub returns-then-at-len : goal.returns-then-at-len
 returns-then-at-len c addresses are = sym (none-there addresses c.args.ranks.now c.args.address c.args.at are c.requires (omega arith))
