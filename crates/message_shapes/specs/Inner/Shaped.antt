@@ -19,7 +19,7 @@ message_with cells shapes told = record { at = told.at; shape = shape_with cells
 abbrev pub messages_with : List ℕ → List (List ℕ) → List Told → List Message
 messages_with cells shapes all = map (message_with cells shapes) all
 
--- ---- which of them have the same shape
+-- ---- which messages have the same shape
 
 -- the shapes of messages
 abbrev pub shapes_of : List Message → List (List ℕ)

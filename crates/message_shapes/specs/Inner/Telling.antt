@@ -31,7 +31,7 @@ abbrev pub origin_of : List (List ℕ) → Subject → Origin
 origin_of texts (subject.Cell cell) = OfCell cell
 origin_of texts (subject.Text number) = OfText (slice_index_or texts number [])
 
--- one that is kept
+-- what is told of a message that is kept
 abbrev pub told_of : List (List ℕ) → Found → Told
 told_of texts found = record { at = found.at; source = origin_of texts found.subject }
 
@@ -88,7 +88,7 @@ content_origin addresses Unread = OfText (codes "?")
 abbrev pub root_told : List ℕ → BodyRoot → Told
 root_told addresses root = record { at = root.at; source = content_origin addresses root.content }
 
--- those of several roots
+-- what is told of several roots
 abbrev pub roots_told : List ℕ → List BodyRoot → List Told
 roots_told addresses roots = map (root_told addresses) (filter is_message roots)
 
@@ -99,7 +99,7 @@ abbrev pub origin_cells : Origin → List ℕ
 origin_cells (OfCell cell) = cell ∷ []
 origin_cells (OfText text) = []
 
--- those of several messages
+-- the cells of several messages
 abbrev pub told_cells : List Told → List ℕ
 told_cells all = flat_map (λ told. origin_cells told.source) all
 
