@@ -57,8 +57,9 @@ try() {
     "FILE PID KIND"*) tell "$1" "$2" "<0.1.0>" mail 0 1000 "$nodes" ;;
     "FILE ADDR") tell "$1" "$2" 1 ;;
     "FILE LIMIT [full]") tell "$1" "$2" 5 && tell "$1" "$2" 5 full ;;
+    "FILE KEY") tell "$1" "$2" State ;;
     "SEED COUNT") ;;
-    *) tell "$1" "$2" State ;;
+    *) echo "hostile: with which words is \`$2 $3\` to be run?" >&2 && exit 1 ;;
     esac
 }
 
