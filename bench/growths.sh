@@ -1,17 +1,20 @@
 #!/bin/sh
-# Refuses each growth of memory once: runs edump again and again, of which the first, the second and each further call of
-# malloc or realloc fails, up to the number that is given. Each run must end with its report and its status, or with
-# status 6 and nothing written; `redact` may have written a front of its report then. Says for each command how many runs ended
-# so, and fails where one ended otherwise, or where fewer than 30 of the first 60 of `trial 0 10`, which makes a heap and a walker
-# for each of ten processes, ended with 6.
+# Refuses growths of memory, one in each run: runs edump again and again, of which the first, the second and each further call of
+# malloc or realloc fails, until a run makes no such call any more, or up to the number that is given. Each run must end with its
+# report and its status, or with status 6 and nothing written; `redact` may have written a front of its report then. Says for each
+# command how many runs ended so, and fails where one ended otherwise, or where fewer than 30 of the first 60 of `trial 0 10`,
+# which makes a heap and a walker for each of ten processes, ended with 6.
 #
-#   bench/growths.sh [MOST]
+#   bench/growths.sh all      each growth
+#   bench/growths.sh [MOST]   the first 60, or as many as are given
 most=${1:-60}
+[ "$most" != all ] || most=1000000
 here=$(CDPATH= cd -- "$(dirname -- "$0")" && pwd) || exit 1
 edump="$here/../crates/edump/out/edump"
 folder=$(mktemp -d) || exit 1
 trap 'rm -rf "$folder"' EXIT
 cc -O2 -shared -fPIC -o "$folder/refuse.so" "$here/refuse.c" -ldl || exit 1
+cc -O2 -o "$folder/hostile" "$here/hostile.c" || exit 1
 "$here/../edump" make 0 10 >"$folder/dump" || exit 1
 failed=0
 
@@ -27,9 +30,16 @@ try() {
     status=$?
     done=0
     wanting=0
-    for refused in $(seq "$most"); do
-        LD_PRELOAD="$folder/refuse.so" REFUSED=$refused "$edump" "$@" >"$folder/out" 2>"$folder/err"
+    refused=0
+    while [ "$refused" -lt "$most" ]; do
+        refused=$((refused + 1))
+        rm -f "$folder/refused"
+        LD_PRELOAD="$folder/refuse.so" REFUSED=$refused REFUSAL="$folder/refused" "$edump" "$@" >"$folder/out" 2>"$folder/err"
         ended=$?
+        if [ ! -e "$folder/refused" ]; then
+            refused=$((refused - 1))
+            break
+        fi
         if [ "$ended" -eq "$status" ] && cmp -s "$folder/out" "$folder/expected"; then
             done=$((done + 1))
         elif [ "$ended" -eq 6 ] && [ ! -s "$folder/out" ]; then
@@ -41,7 +51,7 @@ try() {
             failed=1
         fi
     done
-    echo "edump $1: of $most growths that were refused $wanting ended with 6, $done runs with the whole report"
+    echo "edump $1: of $refused growths that were refused $wanting ended with 6, $done runs with the whole report"
 }
 
 try trial 0 10
@@ -62,4 +72,12 @@ try binaries "$folder/dump"
 try holders "$folder/dump" 20
 try triage "$folder/dump"
 try redact "$folder/dump"
+try field "$folder/dump" State
+try stacks "$folder/dump"
+"$folder/hostile" budgets "$folder/budgets" 10000 && "$folder/hostile" texts "$folder/texts" 50 || exit 1
+try peek "$folder/budgets" "<0.1.0>" 10
+try peek "$folder/budgets" "<0.1.0>" mail 0 1000 15
+try weigh "$folder/budgets" "<0.1.0>"
+try weigh "$folder/texts" "<0.1.0>" 3 20
+try shapes "$folder/texts" "<0.1.0>"
 exit "$failed"

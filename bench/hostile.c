@@ -24,6 +24,20 @@
 //   hostile states FILE N     N processes, each in a state of its own, all of which begin with the same hundred bytes
 //   hostile frames FILE N     N processes, each with a stack of 20 frames, all of which but the end of the last are the same
 //   hostile numbers FILE N    N sections of one binary, and a heap with as many references to it
+//   hostile inner FILE N      a tuple of 3 N / 4 references, to as many inner nodes of hash maps, each of which leads into one
+//                             chain of N lists
+//   hostile one_text FILE N   N messages of one cell that has an atom of N bytes
+//   hostile texts FILE N      N messages, each of eight references to one tuple with an atom of 16 N bytes
+//   hostile tuple FILE N      a thousand messages of one tuple of N bytes
+//   hostile flat FILE N       a thousand messages of one flat map of N bytes
+//   hostile hash FILE N       a thousand messages of one hash map of N bytes
+//   hostile slices FILE N     a thousand messages, each of a sub binary of one heap binary of N bytes
+//   hostile shuffled FILE N   a list of N cells whose addresses ascend in the file, each of which leads anywhere
+//   hostile budgets FILE N    a thousand messages, each of which is the list of N cells from another thousandth of it on, so that
+//                             what is shown of one ends in what is shown of the next
+//   hostile upwards FILE N    a list of N cells, each of which leads to the line before
+//   hostile one_cell FILE N   N messages of one cell
+//   hostile atoms FILE N      N messages, each a quoted atom of 255 bytes
 #include <stdio.h>
 #include <stdlib.h>
 #include <string.h>
@@ -307,6 +321,203 @@ static void write_quoted(unsigned char *bytes, long count) {
 // Atoms of as many bytes as an atom can have, each of which is quoted.
 static void quoted(FILE *f, long count) { terms(f, 7 + 65538 * count, write_quoted); }
 
+// A mailbox of so many messages: the message by its number.
+static void mailbox(FILE *f, long count, void (*put)(FILE *f, long n)) {
+    put_process(f, 1);
+    fputs("=proc_messages:<0.1.0>\n", f);
+    for (long i = 0; i < count; i++) put(f, i), fputs(":N\n", f);
+}
+
+static void put_first(FILE *f, long n) { (void)n, fputs("H10", f); }
+
+static void put_small(FILE *f, long n) { fprintf(f, "I%ld", n); }
+
+static void put_own(FILE *f, long n) { fprintf(f, "H%lX", 16 * (n + 2)); }
+
+// An atom of so many bytes.
+static void put_atom(FILE *f, long bytes) {
+    fprintf(f, "A%lX:", bytes);
+    for (long i = 0; i < bytes; i++) fputc('a', f);
+}
+
+// Numbers between commas, so many of them.
+static void put_numbers(FILE *f, long count) {
+    for (long i = 0; i < count; i++) fputs(i ? ",I1" : "I1", f);
+}
+
+// As many small messages, and a list of so many bytes: the ordinary dump of those with messages.
+static void ordinary(FILE *f, long messages, long bytes) {
+    mailbox(f, messages, put_small);
+    list(f, bytes);
+}
+
+static void inner(FILE *f, long count) {
+    if (plain) {
+        ordinary(f, 1, 42 * count);
+        return;
+    }
+    long nodes = 3 * count / 4;
+    mailbox(f, 1, put_first);
+    put_heap(f);
+    fprintf(f, "10:t%lX:", nodes);
+    for (long i = 0; i < nodes; i++) fprintf(f, "%sH%lX", i ? "," : "", 16 * (i + 2));
+    fputc('\n', f);
+    for (long i = 0; i < nodes; i++) fprintf(f, "%lX:Mn1:H%lX\n", 16 * (i + 2), 16 * (nodes + 2));
+    for (long i = 0; i < count; i++) {
+        fprintf(f, "%lX:lI1|", 16 * (nodes + i + 2));
+        if (i + 1 < count) fprintf(f, "H%lX\n", 16 * (nodes + i + 3));
+        else fputs("N\n", f);
+    }
+}
+
+static void one_text(FILE *f, long count) {
+    if (plain) {
+        ordinary(f, count, count);
+        return;
+    }
+    mailbox(f, count, put_first);
+    put_heap(f);
+    fputs("10:t1:", f);
+    put_atom(f, count);
+    fputc('\n', f);
+}
+
+static void texts(FILE *f, long count) {
+    if (plain) {
+        ordinary(f, count, 60 * count);
+        return;
+    }
+    mailbox(f, count, put_own);
+    put_heap(f);
+    fputs("10:t1:", f);
+    put_atom(f, 16 * count);
+    fputc('\n', f);
+    for (long i = 0; i < count; i++) fprintf(f, "%lX:t8:H10,H10,H10,H10,H10,H10,H10,H10\n", 16 * (i + 2));
+}
+
+static void tuple(FILE *f, long bytes) {
+    if (plain) {
+        ordinary(f, 1000, bytes);
+        return;
+    }
+    mailbox(f, 1000, put_first);
+    put_heap(f);
+    fprintf(f, "10:t%lX:", bytes / 3);
+    put_numbers(f, bytes / 3);
+    fputc('\n', f);
+}
+
+static void flat(FILE *f, long bytes) {
+    if (plain) {
+        ordinary(f, 1000, bytes);
+        return;
+    }
+    mailbox(f, 1000, put_first);
+    put_heap(f);
+    fprintf(f, "10:Mf%lX:H20:", bytes / 6);
+    put_numbers(f, bytes / 6);
+    fprintf(f, "\n20:t%lX:", bytes / 6);
+    put_numbers(f, bytes / 6);
+    fputc('\n', f);
+}
+
+static void hash(FILE *f, long bytes) {
+    if (plain) {
+        ordinary(f, 1000, bytes);
+        return;
+    }
+    mailbox(f, 1000, put_first);
+    put_heap(f);
+    fprintf(f, "10:Mh%lX:%lX:", bytes / 4, bytes / 4);
+    for (long i = 0; i < bytes / 4; i++) fputs(i ? ",H20" : "H20", f);
+    fputs("\n20:lI1|I1\n", f);
+}
+
+static void slices(FILE *f, long bytes) {
+    if (plain) {
+        ordinary(f, 1000, bytes);
+        return;
+    }
+    mailbox(f, 1000, put_own);
+    put_heap(f);
+    fprintf(f, "10:Yh%lX:", bytes / 4 * 3);
+    for (long i = 0; i < bytes / 4; i++) fputs("aGVs", f);
+    fputc('\n', f);
+    for (long i = 0; i < 1000; i++) fprintf(f, "%lX:Ys10:%lX:3\n", 16 * (i + 2), i);
+}
+
+static void shuffled(FILE *f, long count) {
+    mailbox(f, 1, put_first);
+    put_heap(f);
+    // The order of the list, from the first cell on, and behind each cell the next.
+    long *order = malloc(count * sizeof *order), *next = malloc(count * sizeof *next);
+    if (!order || !next) exit(1);
+    for (long i = 0; i < count; i++) order[i] = i;
+    unsigned long random = 1;
+    for (long i = count - 1; i > 1 && !plain; i--) {
+        random = random * 6364136223846793005 + 1442695040888963407;
+        long other = 1 + (random >> 33) % i, held = order[i];
+        order[i] = order[other];
+        order[other] = held;
+    }
+    for (long i = 0; i + 1 < count; i++) next[order[i]] = order[i + 1];
+    next[order[count - 1]] = -1;
+    for (long i = 0; i < count; i++) {
+        fprintf(f, "%lX:lI%08ld|", 16 * (i + 1), i % 100000000);
+        if (next[i] < 0) fputs("N\n", f);
+        else fprintf(f, "H%lX\n", 16 * (next[i] + 1));
+    }
+    free(order);
+    free(next);
+}
+
+// How many cells the list of `budgets` has.
+static long cells;
+
+static void put_thousandth(FILE *f, long n) { fprintf(f, "H%lX", 16 * (n * (cells / 1000) + 1)); }
+
+static void budgets(FILE *f, long count) {
+    cells = count;
+    mailbox(f, 1000, plain ? put_small : put_thousandth);
+    list(f, 40 * (count - 1));
+}
+
+static void upwards(FILE *f, long count) {
+    if (plain) {
+        ordinary(f, 1, 40 * count);
+        return;
+    }
+    mailbox(f, 1, put_first);
+    put_heap(f);
+    for (long i = 1; i < count; i++) {
+        fprintf(f, "%lX:lI%08ld|", 16 * (i + 1), i % 100000000);
+        if (i == 1) fputs("N\n", f);
+        else fprintf(f, "H%lX\n", 16 * i);
+    }
+    fprintf(f, "10:lI1|H%lX\n", 16 * count);
+}
+
+static void one_cell(FILE *f, long count) {
+    if (plain) {
+        ordinary(f, count, 40);
+        return;
+    }
+    mailbox(f, count, put_first);
+    put_heap(f);
+    fputs("10:t1:I1\n", f);
+}
+
+static void put_quoted_atom(FILE *f, long n) {
+    fputs("AFF:", f);
+    for (int i = 0; i < 246; i++) fputc(plain ? 'a' : '\'', f);
+    fprintf(f, "%09ld", n);
+}
+
+static void atoms(FILE *f, long count) {
+    mailbox(f, count, put_quoted_atom);
+    list(f, 40);
+}
+
 static const struct {
     const char *name;
     void (*write)(FILE *f, long count);
@@ -315,6 +526,8 @@ static const struct {
     {"subs", subs}, {"address", one_address}, {"falling", falling}, {"commas", commas}, {"equals", equals}, {"roots", roots},
     {"one_pid", one_pid}, {"star", star}, {"nested", nested}, {"counts", counts}, {"quoted", quoted},
     {"letters", letters}, {"marks", marks}, {"states", states}, {"frames", frames}, {"numbers", numbers},
+    {"inner", inner}, {"one_text", one_text}, {"texts", texts}, {"tuple", tuple}, {"flat", flat}, {"hash", hash},
+    {"slices", slices}, {"shuffled", shuffled}, {"budgets", budgets}, {"upwards", upwards}, {"one_cell", one_cell}, {"atoms", atoms},
 };
 
 int main(int count, char **words) {

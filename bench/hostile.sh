@@ -54,16 +54,18 @@ try() {
     "FILE PID N ADDR") tell "$1" "$2" "<0.1.0>" 3 10 ;;
     "FILE PID [NODES] [marked]") tell "$1" "$2" "<0.1.0>" 1 ;;
     "FILE PID ADDR"*) tell "$1" "$2" "<0.1.0>" 10 ;;
-    "FILE PID KIND"*) tell "$1" "$2" "<0.1.0>" mail 0 1000 1 ;;
+    "FILE PID KIND"*) tell "$1" "$2" "<0.1.0>" mail 0 1000 "$nodes" ;;
     "FILE ADDR") tell "$1" "$2" 1 ;;
     "FILE LIMIT [full]") tell "$1" "$2" 5 && tell "$1" "$2" 5 full ;;
+    "FILE KEY") tell "$1" "$2" State ;;
     "SEED COUNT") ;;
-    *) tell "$1" "$2" State ;;
+    *) echo "hostile: with which words is \`$2 $3\` to be run?" >&2 && exit 1 ;;
     esac
 }
 
-# A shape, with so many of what it has: all commands of the README on it.
+# A shape, with so many of what it has: all commands of the README on it. Of some roots of a process so many nodes are shown.
 shape() {
+    nodes=${3:-1}
     "$folder/hostile" "$1" "$folder/once" "$2" || exit 1
     "$folder/hostile" plain "$1" "$folder/plain" "$2" || exit 1
     "$folder/hostile" "$1" "$folder/twice" $((2 * $2)) || exit 1
@@ -96,4 +98,16 @@ shape marks 4000000
 shape states 200000
 shape frames 20000
 shape numbers 500000
+shape inner 200000
+shape one_text 200000
+shape texts 20000
+shape tuple 1000000
+shape flat 1000000
+shape hash 1000000
+shape slices 400000
+shape shuffled 2000000
+shape budgets 1000000 1500
+shape upwards 500000
+shape one_cell 1000000
+shape atoms 100000
 exit "$slow"

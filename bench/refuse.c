@@ -1,9 +1,11 @@
 // Refuses one growth of memory: with this library loaded first, the call of malloc or realloc fails whose number stands in
-// REFUSED, counted from 1 since the program's start.
+// REFUSED, counted from 1 since the program's start. If there was such a call, the file is made whose name stands in REFUSAL.
 #define _GNU_SOURCE
 #include <dlfcn.h>
 #include <errno.h>
+#include <fcntl.h>
 #include <stdlib.h>
+#include <unistd.h>
 
 static long calls;
 
@@ -14,6 +16,8 @@ static int is_refused(void) {
         refused = word ? atol(word) : 0;
     }
     if (++calls != refused) return 0;
+    const char *name = getenv("REFUSAL");
+    if (name) close(open(name, O_CREAT | O_WRONLY, 0600));
     errno = ENOMEM;
     return 1;
 }

@@ -1,3 +1,3 @@
+pub mod Inner
 pub mod Meaning
 pub mod Report
-pub mod Runs

@@ -17,7 +17,7 @@ task (trial seed count) = trial_task seed count
 abbrev pub report : Command → List ℕ → List ℕ
 report cmd = (task cmd).report
 
--- the status of that report
+-- the status of the report of a command on the bytes of a dump
 abbrev pub report_status : Command → List ℕ → ℕ
 report_status cmd = (task cmd).status
 

@@ -1,9 +1,9 @@
-// Which question each command is.
+// Which question each command is, and its run.
 ghost use Rattle.command_words.specs.Command.{shown_command, shown_query, IsAskInRange, IsInRange};
 ghost use Rattle.dump_questions.specs.Runs.{Runs};
 ghost use Rattle.dump_questions.specs.Tasks.{question};
 ghost use Rattle.dump_command.specs.Meaning.{meaning};
-ghost use Rattle.dump_command.specs.Runs.{RunsOn};
+ghost use Rattle.dump_command.specs.Inner.Runs.{RunsOn};
 
 use command_words::{Cmd, Query};
 use dump_io::{Dumps, Limits, Sink};
@@ -46,7 +46,7 @@ pub(crate) fn run_command<D: Dumps, K: Sink>(
     }
 }
 
-// The same for what is asked of the dump in a file.
+// Runs what a command asks of the dump in a file, and returns the status.
 fn run_query<D: Dumps, K: Sink>(
     dump: &Unopened<'_>,
     query: Query<'_>,

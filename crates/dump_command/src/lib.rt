@@ -8,8 +8,8 @@
 //! let status = run(rt.alloc(), &words, &Limits::usual(), &mut dumps, &mut out, &mut err);
 //! ```
 //!
-//! Each command is a question of dump_questions, whose crates have its meaning, what
-//! it reads and what it writes; here stands which command is which question.
+//! What each command means, reads and writes stands in table_commands, heap_commands
+//! and stream_commands; here stands which command each of them is.
 #![tactic(auto)]
 
 mod commands;

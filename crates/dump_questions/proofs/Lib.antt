@@ -1,5 +1,1 @@
-pub mod Bodies
-pub mod HeapLoads
-pub mod Openings
-pub mod Reading
-pub mod Runs
+mod Openings

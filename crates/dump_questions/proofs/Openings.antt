@@ -11,7 +11,7 @@ use Rattle.section_index.specs.declared.opening.OpenFault.TheVariants.{Read, Mem
 use Rattle.dump_questions.specs.Reading.{HasOpened, IsUnopened, IsUnopenedFor}
 use Rattle.dump_questions.specs.Stops.{stop_of_opening}
 
--- what is open, if anything is, is the file of that name
+-- if a file is open, it is the one with that name
 named-is : (told_files : Option Files) (name : List ℕ) (now : Now) (bytes : List ℕ) → IsClosedOrNamed told_files name now
     → IsHeld told_files name bytes ⊎ (now ≡ told bytes) → (now ≡ closed) ⊎ (now ≡ told bytes)
 named-is told_files name now bytes named (inr is) = inr is
@@ -19,17 +19,17 @@ named-is None name now bytes named (inl is) = absurd is
 named-is (Some files) name closed bytes named (inl is) = inl refl
 named-is (Some files) name now bytes named (inl is) = let same : named.0 ≡ bytes = cc (named.1, is) in inr (named.2 ∙ ap told same)
 
--- it has the size of that file
+-- what is open has at most the size of that file
 size-file : (now : Now) (bytes : List ℕ) → (now ≡ closed) ⊎ (now ≡ told bytes) → size_of now ≤ length bytes
 size-file now bytes (inl is) = omega (arith, ap size_of is)
 size-file now bytes (inr is) = omega (arith, ap size_of is)
 
--- over an index that was built it is open
+-- where an index was built over what is open, the file is open
 told-file : (now : Now) (bytes : List ℕ) (index : Contents) → IsBuiltOver now index → (now ≡ closed) ⊎ (now ≡ told bytes) → now ≡ told bytes
 told-file now bytes index over (inl is) = absurd (subst (λ n. IsBuiltOver n index) is over)
 told-file now bytes index over (inr is) = is
 
--- where no file has the name none is open
+-- where no file has the name, none is open
 closed-absent : (told_files : Option Files) (name : List ℕ) (now : Now) → IsClosedOrNamed told_files name now → IsAbsent told_files name → now ≡ closed
 closed-absent None name now named gone = absurd gone
 closed-absent (Some files) name closed named gone = refl

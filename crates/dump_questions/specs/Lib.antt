@@ -1,5 +1,6 @@
 pub mod Bodies
 pub mod Heaps
+pub mod Laws
 pub mod Meaning
 pub mod Reading
 pub mod Run

@@ -29,14 +29,14 @@ memory_section sections = first_tagged (codes "memory") sections
 abbrev pub no_process : List ℕ → List Section → Option Refusal
 no_process pid sections = if is_some (process_section pid sections) then None else Some (NoProcess pid)
 
--- ---- what is seen of them
+-- ---- what is seen of a section
 
 -- the body of a section, and its offset in the file
 pub record Part : Type 0 where
   pub base : ℕ
   pub bytes : List ℕ
 
--- that of the section that is found among those of a dump; a missing one counts as empty
+-- the part of a dump that is found among its sections; a missing section counts as empty
 abbrev pub part_in : (List Section → Option Section) → List ℕ → Part
 part_in find bytes = let found = find (sections bytes) in record { base = body_start found; bytes = body_in bytes found }
 
@@ -46,11 +46,11 @@ part_in find bytes = let found = find (sections bytes) in record { base = body_s
 pub record Meaning : Type 1 where
   -- what it shows of a dump
   pub What : Type 0
-  -- that of the dump with these bytes
+  -- what it shows of the dump with these bytes
   pub what : List ℕ → What
-  -- how it is reported
+  -- how that is reported
   pub show : What → List ℕ
-  -- what is found in it, if the question is for findings: it ends with 3 if there is one
+  -- what is found in that, if the question is for findings: it ends with 3 if there is one
   pub found : Option (What → List Finding)
   -- why it is refused for the sections of the dump, before a body is read: what it asks for isn't there
   pub refused_unread : List Section → Option Refusal
@@ -77,7 +77,7 @@ first_body sections = first_section sections ∷ []
 abbrev pub memory_body : List Section → List Section
 memory_body sections = option_to_list (memory_section sections)
 
--- one that loads these bodies alone, and is refused only if one is too large
+-- a question that loads these bodies alone, and is refused only if one is too large
 abbrev pub of_bodies : {A : Type 0} → (List Section → List Section) → (List ℕ → A) → (A → List ℕ) → Meaning
 of_bodies {A} bodies what show = record {
   What = A;
@@ -91,10 +91,10 @@ of_bodies {A} bodies what show = record {
   streams = false;
 }
 
--- one that may load the body of one section, and shows it
+-- a question that may load the body of one section, and shows it
 abbrev pub of_section : (List Section → Option Section) → (Part → List ℕ) → Meaning
 of_section find show = of_bodies (λ ss. option_to_list (find ss)) (part_in find) show
 
--- one that is also refused if that section isn't there
+-- a question that shows the body of a section, and is also refused if that section isn't there
 abbrev pub of_subject : (List Section → Option Section) → Refusal → (Part → List ℕ) → Meaning
 of_subject find why show = record (of_section find show) { refused_unread = λ ss. if is_some (find ss) then None else Some why }

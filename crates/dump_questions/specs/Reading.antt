@@ -1,4 +1,4 @@
--- What is known of a dump that was opened, what a command reads of it, and what it leaves of its report.
+-- What is known of a dump that was opened, what a question reads of it, and what it leaves of its report.
 use Rattle.std.specs.Prelude.{◌≡◌, ◌⊎◌, ℕ, ◌≤◌, List, length, Option, None, Some, Result, Ok, Err, IsSome, MatchResult, ◌++◌}
 use Rattle.std.specs.Option.{option_or}
 use Rattle.dump_io.specs.Counts.{plus_capped}
@@ -24,7 +24,7 @@ use Rattle.heap_cells.specs.Loading.{heap_bodies}
 use Rattle.heap_cells.specs.DumpHeaps.{heap_map}
 use Rattle.dump_questions.specs.Heaps.{too_dense}
 
--- these bytes are accepted and open, and this is their index
+-- these bytes are accepted as a dump and open, and this is their index
 pub record IsIndexed (bytes : List ℕ) (limits : Numbers) (index : Contents) (now : Now) : Type 0 where
   pub accepted : IsAccepted bytes limits
   pub of : IsIndexOf bytes index
@@ -44,9 +44,10 @@ pub record HasOpened (name : List ℕ) (limits : Numbers) (before after : Device
 pub record IsRefusedAs (name : List ℕ) (limits : Numbers) (before after : DeviceState) (why : Refusal) : Type 0 where
   pub proper : IsRefusal why
   pub there : IsAbsent before.files name → ⊥
-  pub told : (bytes : List ℕ) → IsFileOf before after name bytes → (fault : OpenFault) × IsRefusedFor bytes limits fault × (why ≡ Open fault)
+  pub told : (bytes : List ℕ) → IsFileOf before after name bytes
+      → (fault : OpenFault) × IsRefusedFor bytes limits fault × (why ≡ Open fault)
 
--- why the dump with this name is not opened, by how the command stopped
+-- why the dump with this name is not opened, by how the question stopped
 abbrev pub IsUnopenedFor : List ℕ → Numbers → DeviceState → DeviceState → Stop → Type 0
 IsUnopenedFor name limits before after (Refused why) = IsRefusedAs name limits before after why
 IsUnopenedFor name limits before after NotRead = DeviceFailed before after ⊎ IsAbsent before.files name
@@ -61,21 +62,21 @@ pub record IsUnopened (name : List ℕ) (limits : Numbers) (before after : Devic
   pub later : before.faults ≤ after.faults
   pub taken : (bytes : List ℕ) → IsFileOf before after name bytes → after.taken ≤ plus_capped before.taken (length bytes)
 
--- ---- what a command reads of the open dump, and what it leaves of its report
+-- ---- what a question reads of the open dump, and what it leaves of its report
 
 -- why a question to an accepted dump with this index is refused: the first cause that holds
 abbrev pub refusal_over : Meaning → Contents → List ℕ → Numbers → Option Refusal
 refusal_over means index bytes limits = option_or (refusal_listed means (sections_in index) limits) (means.refused_read limits bytes)
 
--- at most as much is taken of the open dump as may be taken after
--- the pass over it: nothing if a refusal comes before the bodies
+-- a question takes at most as much of the open dump as it may take after
+-- the pass over it, and nothing if a refusal comes before the bodies
 pub record Takes (means : Meaning) (limits : Numbers) (index : Contents) (before after : DeviceState) : Type 0 where
   pub bytes : ℕ
   pub reads : ReadsAtMost before after bytes
   pub few : (all : List ℕ) → IsIndexed all limits index before.now → bytes ≤ means.takes limits all
   pub unread : IsSome (refusal_listed means (sections_in index) limits) → ReadsAtMost before after 0
 
--- a command stopped while it read: it is refused for a cause with this
+-- a question stopped while it read: it is refused for a cause with this
 -- property, or the device failed; memory may be lacking at any time
 abbrev pub StopsFor : DeviceState → DeviceState → (Refusal → Type 0) → Stop → Type 0
 StopsFor before after P (Refused why) = IsRefusal why × P why
@@ -83,22 +84,25 @@ StopsFor before after P NotRead = DeviceFailed before after
 StopsFor before after P NotWritten = ⊥
 StopsFor before after P NoMemory = Unit {0}
 
--- why a command stopped while it read
+-- why a question stopped while it read, and what it took
 pub record IsHalted (means : Meaning) (limits : Numbers) (index : Contents) (before after : DeviceState) (stop : Stop) : Type 0 where
   pub takes : Takes means limits index before after
-  pub cause : StopsFor before after (λ why. (bytes : List ℕ) → IsIndexed bytes limits index before.now → refusal_over means index bytes limits ≡ Some why) stop
+  pub cause : StopsFor before after
+      (λ why. (bytes : List ℕ) → IsIndexed bytes limits index before.now → refusal_over means index bytes limits ≡ Some why) stop
 
--- a command has read all: nothing is refused, and it saw this of the dump
+-- a question has read all: nothing is refused, and it saw this of the dump
 pub record HasRead (means : Meaning) (limits : Numbers) (index : Contents) (before after : DeviceState) (seen : means.What) : Type 0 where
   pub takes : Takes means limits index before after
-  pub told : (bytes : List ℕ) → IsIndexed bytes limits index before.now → (refusal_over means index bytes limits ≡ None) × (seen ≡ means.what bytes)
+  pub told : (bytes : List ℕ) → IsIndexed bytes limits index before.now
+      → (refusal_over means index bytes limits ≡ None) × (seen ≡ means.what bytes)
 
--- a command reads what its report is written from, or returns why it didn't
-abbrev pub ReadsFor : {V : Type 0} (means : Meaning) → Numbers → Contents → DeviceState → DeviceState → (V → means.What) → Result V Stop → Type 0
+-- a question reads what its report is written from, or returns why it didn't
+abbrev pub ReadsFor : {V : Type 0} (means : Meaning) → Numbers → Contents → DeviceState → DeviceState → (V → means.What)
+    → Result V Stop → Type 0
 ReadsFor means limits index before after seen result =
     MatchResult result (λ loaded. HasRead means limits index before after (seen loaded)) (IsHalted means limits index before after)
 
--- what writing a text leaves, after which a command ends with this status
+-- what writing a text leaves, after which a run ends with this status
 abbrev pub Tells : SinkState → SinkState → List ℕ → ℕ → Result ℕ Stop → Type 0
 Tells before after text status (Ok ended) = (ended ≡ status) × Gained before after text
 Tells before after text status (Err (Refused why)) = ⊥
@@ -106,24 +110,25 @@ Tells before after text status (Err NotRead) = ⊥
 Tells before after text status (Err NotWritten) = GainedFront before after text × SinkFailed before after
 Tells before after text status (Err NoMemory) = IsKept before after
 
--- what writing the report on what was seen leaves
+-- what writing the report of a question on what was seen leaves
 abbrev pub TellsOf : (means : Meaning) → means.What → SinkState → SinkState → Result ℕ Stop → Type 0
 TellsOf means seen before after ended = Tells before after (means.show seen) (status_for means seen) ended
 
--- ---- what is known of the heap of a process that a command loads, and why it isn't loaded
+-- ---- what is known of the heap of a process that a question loads, and why it isn't loaded
 
--- why a command that loads these bodies and then the heap of a process is refused before it reads any of them
+-- why a question that loads these bodies and then the heap of a process is refused before it reads any of them
 abbrev pub heap_listed : List ℕ → List Section → Numbers → List Section → Option Refusal
 heap_listed pid before limits sections = option_or (no_process pid sections) (too_large limits.section (before ++ heap_bodies pid sections))
 
 -- the heap of a process was loaded: no refusal comes before it, and it is that of the dump
-pub record HoldsHeap (pid : List ℕ) (before : List Section) (limits : Numbers) (index : Contents) (now : Now) (heap : HeapMap) : Type 0 where
+pub record HoldsHeap (pid : List ℕ) (before : List Section) (limits : Numbers) (index : Contents)
+    (now : Now) (heap : HeapMap) : Type 0 where
   pub listed : heap_listed pid before limits (sections_in index) ≡ None
   pub sparse : (bytes : List ℕ) → IsIndexed bytes limits index now → too_dense limits.dense pid bytes ≡ None
   pub is : (bytes : List ℕ) → IsIndexed bytes limits index now → heap ≡ heap_map pid bytes
 
--- why it wasn't loaded: a refusal before any body is read, a heap that
--- is too dense, or the device failed; memory may be lacking at any time
+-- why the heap of a process wasn't loaded: a refusal before any body is read, a
+-- heap that is too dense, or the device failed; memory may be lacking at any time
 abbrev pub IsHeapless : List ℕ → List Section → Numbers → Contents → DeviceState → DeviceState → Stop → Type 0
 IsHeapless pid before limits index old new stop =
     StopsFor old new (λ why. (bytes : List ℕ) → IsIndexed bytes limits index old.now
@@ -131,7 +136,9 @@ IsHeapless pid before limits index old new stop =
 
 -- what a call does that loads the heap of a process behind these bodies: it reads at most the
 -- heap's own, and nothing if a refusal comes before; and the heap was loaded, or wasn't
-pub record GivesHeap {D : Type 0} (state : D → DeviceState) (pid : List ℕ) (before : List Section) (limits : Numbers) (index : Contents) (old new : D) (result : Result HeapMap Stop) : Type 0 where
+pub record GivesHeap {D : Type 0} (state : D → DeviceState) (pid : List ℕ) (before : List Section) (limits : Numbers)
+    (index : Contents) (old new : D) (result : Result HeapMap Stop) : Type 0 where
   pub reads : ReadsAtMost (state old) (state new) (bodies_length (heap_bodies pid (sections_in index)))
   pub unread : IsSome (heap_listed pid before limits (sections_in index)) → new ≡ old
-  pub heap : MatchResult result (HoldsHeap pid before limits index (state old).now) (IsHeapless pid before limits index (state old) (state new))
+  pub heap : MatchResult result (HoldsHeap pid before limits index (state old).now)
+      (IsHeapless pid before limits index (state old) (state new))

@@ -10,20 +10,20 @@ use Rattle.report_text.specs.declared.refusals.Refusal.{Refusal}
 use Rattle.report_text.specs.Refusals.{refusal_line}
 use Rattle.dump_questions.specs.Tasks.{Task}
 
--- these are the bytes on which this command reports: those of its file, and none if it has no file
+-- these are the bytes on which a command reports: those of its file, and none if it has no file
 abbrev pub IsDumpOf : DeviceState → DeviceState → Task → List ℕ → Type 0
 IsDumpOf before after task bytes = MatchOption (task.file) (bytes ≡ []) (λ name. IsFileOf before after name bytes)
 
--- the device tells its files, and none has the name of the command's file
+-- the device tells its files, and none has the name of a command's file
 abbrev pub IsMissing : DeviceState → Task → Type 0
 IsMissing before task = IsSomeAnd (task.file) (IsAbsent before.files)
 
--- the command's dump wasn't read: the device failed, or has no such file
+-- the dump of a command wasn't read: the device failed, or has no such file
 abbrev pub IsUnread : DeviceState → DeviceState → Task → Type 0
 IsUnread before after task = IsSomeAnd (task.file) (λ name. DeviceFailed before after ⊎ IsAbsent before.files name)
 
--- the whole report on these bytes was written, for which
--- nothing is refused, and the status is that of the report
+-- a command wrote its whole report on these bytes, for which
+-- it isn't refused, and the status is that of the report
 pub record IsReported (task : Task) (limits : Numbers) (status : ℕ) (bytes : List ℕ) (before after : SinkState) : Type 0 where
   pub accepted : task.refusal bytes limits ≡ None
   pub ends : status ≡ task.status bytes
@@ -36,7 +36,8 @@ pub record Reports (task : Task) (limits : Numbers) (status : ℕ) (before after
 
 -- status 2: the command is refused, the line that says why is in `err`, and `out` is untouched
 pub record Refuses (task : Task) (limits : Numbers) (before after : DeviceState) (out out' err err' : SinkState) : Type 0 where
-  pub told : (bytes : List ℕ) → IsDumpOf before after task bytes → IsSomeAnd (task.refusal bytes limits) (λ why. Gained err err' (refusal_line why))
+  pub told : (bytes : List ℕ) → IsDumpOf before after task bytes
+      → IsSomeAnd (task.refusal bytes limits) (λ why. Gained err err' (refusal_line why))
   pub out_kept : IsKept out out'
 
 -- a proper prefix of the report is in `out`, or, if the command is
@@ -56,7 +57,7 @@ abbrev pub IsLeftOf : Task → List ℕ → Option Refusal → SinkState → Sin
 IsLeftOf task bytes None before after = IsKept before after ⊎ GainedFront before after (task.report bytes)
 IsLeftOf task bytes (Some why) before after = IsKept before after
 
--- such a command left this in `out`, and nothing if it has no file
+-- a command that writes while it reads, and stopped, left this in `out`, and nothing if it has no file
 pub record HasStopped (task : Task) (limits : Numbers) (before after : DeviceState) (out out' : SinkState) : Type 0 where
   pub absent : IsMissing before task → IsKept out out'
   pub told : (bytes : List ℕ) → IsDumpOf before after task bytes → IsLeftOf task bytes (task.refusal bytes limits) out out'
@@ -71,7 +72,7 @@ IsLeftBy true task limits before after out out' = HasStopped task limits before 
 abbrev pub IsLeft : Task → Numbers → DeviceState → DeviceState → SinkState → SinkState → Type 0
 IsLeft task limits before after out out' = IsLeftBy task.streams task limits before after out out'
 
--- no more bytes are taken than the command may take
+-- a run takes no more bytes than the command may take
 abbrev pub TakesAtMost : Task → Numbers → DeviceState → DeviceState → Type 0
 TakesAtMost task limits before after =
     (bytes : List ℕ) → IsDumpOf before after task bytes → after.taken ≤ plus_capped before.taken (task.allowance bytes limits)
@@ -94,7 +95,7 @@ pub record Untouched (before after : DeviceState) : Type 0 where
 -- what a run of a command leaves
 pub record IsRunOf (task : Task) (limits : Numbers) (status : ℕ) (before after : DeviceState) (out out' err err' : SinkState) : Type 0 where
   pub ends : Ends task limits status before after out out' err err'
-  -- if there is no such file, the dump wasn't read, or memory was lacking, and nothing was taken
+  -- if there is no file with its name, the dump wasn't read, or memory was lacking, and nothing was taken
   pub missing : IsMissing before task → ((status ≡ 4) ⊎ (status ≡ 6)) × Untouched before after
   -- whatever the status, the files stay the same, and the count of faults doesn't fall
   pub same_files : after.files ≡ before.files

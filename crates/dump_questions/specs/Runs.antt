@@ -14,23 +14,24 @@ use Rattle.dump_questions.specs.declared.stop.Stop.TheVariants.{Refused, NotRead
 abbrev pub EndsWith : Task → ℕ → Type 0
 EndsWith task status = (status ≡ 0) ⊎ ((status ≡ 3) × IsTrue (task.finds))
 
--- the whole report was written, with this status
+-- a command wrote its whole report, and ended with this status
 pub record IsDone (task : Task) (limits : Numbers) (before after : DeviceState) (out out' : SinkState) (status : ℕ) : Type 0 where
   pub there : IsMissing before task → ⊥
   pub ends : EndsWith task status
   pub told : (bytes : List ℕ) → IsDumpOf before after task bytes → IsReported task limits status bytes out out'
 
--- the command is refused for this cause
+-- a command is refused for this cause
 pub record IsRefusedFor (task : Task) (limits : Numbers) (before after : DeviceState) (why : Refusal) : Type 0 where
   pub proper : IsRefusal why
   pub there : IsMissing before task → ⊥
   pub told : (bytes : List ℕ) → IsDumpOf before after task bytes → task.refusal bytes limits ≡ Some why
 
--- a write of the report failed
+-- a write of the report of a command failed
 pub record IsBrokenOff (task : Task) (limits : Numbers) (before after : DeviceState) (out out' : SinkState) : Type 0 where
   pub there : IsMissing before task → ⊥
   pub failed : SinkFailed out out'
-  pub told : (bytes : List ℕ) → IsDumpOf before after task bytes → (task.refusal bytes limits ≡ None) × GainedFront out out' (task.report bytes)
+  pub told : (bytes : List ℕ) → IsDumpOf before after task bytes
+      → (task.refusal bytes limits ≡ None) × GainedFront out out' (task.report bytes)
 
 -- what a command left, by how it ended
 abbrev pub Leaves : Task → Numbers → DeviceState → DeviceState → SinkState → SinkState → Result ℕ Stop → Type 0
@@ -48,11 +49,7 @@ pub record Runs (task : Task) (limits : Numbers) (before after : DeviceState) (o
   pub later : before.faults ≤ after.faults
   pub taken : TakesAtMost task limits before after
 
--- the same over a device, which a command without a file leaves as it is
-pub record RunsOn {D : Type 0} (state : D → DeviceState) (task : Task) (limits : Numbers) (old new : D) (out out' : SinkState) (ended : Result ℕ Stop) : Type 0 where
-  pub runs : Runs task limits (state old) (state new) out out' ended
-  pub idle : task.file ≡ None → new ≡ old
-
--- a command that opens no file leaves this whatever the limits and the device are, which it isn't given
+-- what a command that opens no file leaves, whatever the limits and the device are, which it isn't given
 abbrev pub RunsAlone : Task → SinkState → SinkState → Result ℕ Stop → Type 0
-RunsAlone task out out' ended = (limits : Numbers) (device : DeviceState) → device.taken < 2 ^ 64 → Runs task limits device device out out' ended
+RunsAlone task out out' ended =
+    (limits : Numbers) (device : DeviceState) → device.taken < 2 ^ 64 → Runs task limits device device out out' ended

@@ -16,9 +16,9 @@ use Rattle.dump_questions.specs.Meaning.{Meaning}
 pub record Task : Type 0 where
   -- the name of the file that it opens, if it opens one
   pub file : Option (List ℕ)
-  -- its report on the bytes of that file
+  -- its report on the bytes of its file
   pub report : List ℕ → List ℕ
-  -- the status of that report: 3 if there are findings in it, and otherwise 0
+  -- the status of its report: 3 if there are findings in it, and otherwise 0
   pub status : List ℕ → ℕ
   -- whether it looks for findings
   pub finds : Bool
@@ -37,7 +37,7 @@ abbrev pub status_of : List Finding → ℕ
 status_of [] = 0
 status_of (finding ∷ findings) = 3
 
--- the status of a report on this: 3 if there are findings in it, and otherwise 0
+-- the status of the report on what was seen: 3 if there are findings in it, and otherwise 0
 abbrev pub status_for : (means : Meaning) → means.What → ℕ
 status_for means seen = option_map_or (λ find. status_of (find seen)) means.found 0
 
@@ -73,7 +73,7 @@ question name means = record {
 
 -- ---- a command without a file
 
--- the one that reports this
+-- a command without a file that reports this
 abbrev pub alone : List ℕ → Task
 alone text = record {
   file = None;

@@ -8,7 +8,7 @@ use crate::stop::Stop;
 use dump_io::{Failed, Sink, write_all};
 use report_text::put_refusal;
 
-// The status after a line was written: the given one, or that of a failed write.
+// Returns the status of a run after its line was written: the given one, or that of a failed write.
 fn status_of(written: Result<(), Failed>, status: u8) -> u8
     ensures { MatchResult written (λ _. result ≡ status) (λ _. result ≡ 5) }
 {
@@ -18,14 +18,14 @@ fn status_of(written: Result<(), Failed>, status: u8) -> u8
     }
 }
 
-/// Writes the usage line, and returns the status.
+/// Writes the usage line, and returns the status of a run whose words are no command.
 pub fn put_usage<E: Sink>(err: &mut E) -> u8
     ensures { EndsTold 1 usage_line result (E.state err.old) (E.state err.new) }
 {
     status_of(write_all(err, b"usage: edump COMMAND [WORDS]\n"), USAGE)
 }
 
-/// Ends the run of a command: writes the line of a refusal, and returns the status.
+/// Ends the run of a command: writes the line of its refusal, if it is refused, and returns its status.
 pub fn end<E: Sink>(ended: Result<u8, Stop>, err: &mut E) -> u8
     requires { IfErr ended IsProper }
     ensures { EndsAs ended result (E.state err.old) (E.state err.new) }

@@ -4,6 +4,12 @@
 //! dump, and what it writes from that. [`run_report`] opens the dump, lets it read and lets it write.
 //! Why it ends without its whole report is a [`Stop`], to which `?` converts the faults of the
 //! layers below; [`end`] turns that into a status of [`status`] and a line.
+//!
+//! ```text
+//! let dump = Unopened { alloc, file: "erl_crash.dump", limits: &limits };
+//! let ended = run_report(&dump, &Field { key: b"State" }, &mut dumps, &mut out);
+//! let status = end(ended, &mut err);
+//! ```
 #![tactic(auto)]
 
 mod ending;

@@ -1,4 +1,4 @@
-// Opening a dump for a command.
+// Opening a dump for a question.
 ghost use Rattle.std.specs.Prelude.{MatchResult};
 ghost use Rattle.dump_questions.specs.Reading.{HasOpened, IsUnopened};
 

@@ -12,19 +12,19 @@ use dump_io::{Dumps, Sink};
 
 /// A question to a dump: it reads all that its report needs, and then writes the report.
 pub trait Report {
-    /// What it reads of the dump besides the index.
+    /// What the question reads of the dump besides the index.
     type Loaded: Drop;
 
-    /// What it means.
+    /// What the question means.
     ghost means: { Self → Meaning };
 
-    /// What it saw of the dump, of which its meaning says how it is reported.
+    /// What the question saw of the dump, of which its meaning says how it is reported.
     ghost seen: { (c : Self) → Contents → Self.Loaded → (means c).What };
 
-    /// What it requires of its words.
+    /// What the question requires of its words.
     ghost asked: { Self → Type 0 } = { λ _. Unit {0} };
 
-    /// What its report requires of what was read.
+    /// What the report requires of what was read.
     ghost fits: { Self → Contents → Self.Loaded → Type 0 } = { λ _ _ _. Unit {0} };
 
     /// Reads what the report needs, or returns why it didn't.

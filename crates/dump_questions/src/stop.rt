@@ -1,6 +1,7 @@
-// Why a command ended without its whole report.
+// Why a question ended without its whole report.
 ghost use Rattle.std.specs.Prelude.{◌≡◌};
-ghost use Rattle.dump_questions.specs.Stops.{or_stop, stop_of_opening, stop_of_body, stop_of_large, stop_of_heap, stop_of_previews, stop_of_reading};
+ghost use Rattle.dump_questions.specs.Stops.{or_stop, stop_of_body, stop_of_heap, stop_of_large};
+ghost use Rattle.dump_questions.specs.Stops.{stop_of_opening, stop_of_previews, stop_of_reading};
 
 use binary_refs::PreviewFault;
 use dump_io::{Failed, ReadFault};
@@ -10,10 +11,10 @@ use report_text::Refusal;
 use section_index::OpenFault;
 use std::alloc::AllocError;
 
-/// Why a command ended without its whole report; the faults of all layers are converted to this.
-#[derive(Debug, Drop)]
+/// Why a question ended without its whole report; the faults of all layers are converted to this.
+#[derive(Drop)]
 pub enum Stop {
-    /// The command is refused.
+    /// The question is refused.
     Refused(Refusal),
     /// The device failed, or has no such file.
     NotRead,
@@ -58,7 +59,7 @@ impl From<LargeSection> for Stop {
     }
 }
 
-/// What was loaded, or the stop of the command.
+/// Returns what was loaded, or the stop of the question that a fault of a body is.
 pub fn or_stop<T>(loaded: Result<T, BodyFault>) -> Result<T, Stop>
     ensures { result ≡ or_stop loaded }
 {

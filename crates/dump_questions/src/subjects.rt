@@ -1,4 +1,4 @@
-// What commands find on the index of a dump and read from it:
+// What questions find on the index of a dump and read from it:
 // a process, the body of a section, the heap of a process.
 ghost use Rattle.std.specs.Prelude.{◌≡◌, ◌<◌, List, length, Some, IfOk, IfSome};
 ghost use Rattle.term_unfold.specs.Parts.{has_cell};
@@ -20,7 +20,7 @@ use dump_sections::{BodyFault, LargeSection, large_body, read_body};
 use heap_cells::{Heap, Seat};
 use report_text::Refusal;
 
-/// The place of the section of a process. A pid without such a section is refused.
+/// Finds the section of a process, and returns its place. Refuses a pid without such a section.
 pub fn find_process(at: &Opened<'_>, pid: &[u8]) -> Result<usize, Stop>
     ensures judges { Judges (no_process pid.now (sections_in at.now.index.now)) result }
     ensures within { IfOk result (λ i. i < length at.now.index.now.headers) }
@@ -65,7 +65,7 @@ pub fn read_found<D: Dumps>(
     Ok(Body { bytes, base })
 }
 
-/// Reads the heap of a process for a command that loads the body of the section at `place` before
+/// Reads the heap of a process for a question that loads the body of the section at `place` before
 /// it, if there is one: the process is found, and all bodies are judged before one is read.
 pub fn load_heap<D: Dumps>(
     at: &Opened<'_>,
@@ -81,8 +81,8 @@ pub fn load_heap<D: Dumps>(
     load_behind(at, dumps, pid, large_body(at.index, place, at.limits))
 }
 
-/// The same for a command that loads several bodies before the
-/// heap, given the first of them that is too large.
+/// Reads the heap of a process for a question that loads several bodies
+/// before it, given the first of them that is too large.
 pub fn load_behind<D: Dumps>(
     at: &Opened<'_>,
     dumps: &mut D,

@@ -1,4 +1,4 @@
--- What a command has read of the section of a binary.
+-- What `binary` has read of the section of a binary.
 use Rattle.std.proofs.Common.{◌∙◌, ◌∷◌, ◌≡◌, [], ap, arith, subst, sym, Err, List, None, Ok, Result, Some, ℕ}
 use Rattle.std.specs.Prelude.{IfOk}
 use Rattle.std.specs.Option.{option_and_then, option_to_list, unwrap_or}
@@ -18,23 +18,24 @@ use Rattle.heap_commands.specs.Terms.{bad_binary, binary_cause, malformed_cause}
 use Rattle.dump_questions.specs.Reading.{IsHalted, IsIndexed, ReadsFor, Takes}
 use Rattle.dump_questions.specs.Stops.{stop_of_body, Judges}
 use Rattle.dump_questions.specs.declared.stop.Stop.{Stop}
-use Rattle.dump_questions.proofs.Reading.{none-large, takes-bodies, HasRead-listed, IsHalted-bodies, IsHalted-held, IsOfBodies}
+use Rattle.dump_questions.specs.Laws.Reading.{none-large, takes-bodies, HasRead-listed, IsHalted-bodies, IsHalted-held, IsOfBodies}
 use Rattle.heap_commands.specs.Rows.{binary_row}
 
--- ---- what the section writes is what it writes in the dump
+-- ---- what the section writes
 
 module _ (addr : ℕ) (bytes : List ℕ) (index : Contents) (section : Section) (is : index ≡ index_of bytes) (there : binary_section addr (sections_in index) ≡ Some section) where
+  -- it writes what it writes in the dump
   whole-told : whole_bytes bytes (index_of bytes) addr ≡ bytes_of_body (enc_of index.version) (body_of bytes section)
   whole-told =
       ap (λ i. whole_bytes bytes i addr) (sym is) ∙ ap (option_and_then (λ s. bytes_of_body (enc_of index.version) (body_of bytes s))) there
 
-  -- it is malformed where they are missing
+  -- it is malformed where it writes no bytes
   bad-told : bad_binary addr bytes ≡ malformed_cause section.at (bytes_of_body (enc_of index.version) (body_of bytes section))
   bad-told =
       ap (option_and_then (λ (s : Section). malformed_cause s.at (whole_bytes bytes (index_of bytes) addr))) (ap (λ i. binary_section addr (sections_in i)) (sym is) ∙ there)
       ∙ ap (malformed_cause section.at) whole-told
 
--- ---- what was read of it
+-- ---- what was read of the section
 
 module _ {D : Type 0} (state : D → DeviceState) (b c : D) (addr : ℕ) (limits : Numbers) (index : Contents) (section : Section) (there : binary_section addr (sections_in index) ≡ Some section) where
   of-binary : IsOfBodies (binary_row addr) limits index
@@ -43,11 +44,11 @@ module _ {D : Type 0} (state : D → DeviceState) (b c : D) (addr : ℕ) (limits
   loads-binary : {T : Type 0} {result : Result T BodyFault} → LoadsBodies state (section ∷ []) limits.section b c result → LoadsBodies state (option_to_list (binary_section addr (sections_in index))) limits.section b c result
   loads-binary {result = result} loads = subst (λ ss. LoadsBodies state ss limits.section b c result) (ap option_to_list (sym there)) loads
 
-  -- its body wasn't
+  -- its body wasn't read
   pub IsHalted-body : {T : Type 0} (fault : BodyFault) → LoadsBodies {T = T} state (section ∷ []) limits.section b c (Err fault) → IsHalted (binary_row addr) limits index (state b) (state c) (stop_of_body fault)
   IsHalted-body fault loads = IsHalted-bodies (binary_row addr) limits index of-binary state b c fault (loads-binary loads)
 
-  -- these are the bytes that it writes, or it is malformed
+  -- its body was read, and these are the bytes that it writes, or it is malformed
   pub reads-binary : {T : Type 0} (body : T) (held : List ℕ) (result : Result (Vec ℕ) Stop) → LoadsBodies state (section ∷ []) limits.section b c (Ok body) → IsBodyIn (state b).now (Some section) held
       → Judges (malformed_cause section.at (bytes_of_body (enc_of index.version) held)) result → IfOk result (λ bytes. bytes_of_body (enc_of index.version) held ≡ Some bytes.items)
       → ReadsFor (binary_row addr) limits index (state b) (state c) (λ bytes. bytes.items) result

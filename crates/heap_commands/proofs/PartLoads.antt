@@ -1,20 +1,20 @@
 -- What `peek` has read: of a heap of any size the lines that the shown terms need.
 use Rattle.std.proofs.Common.{◌*◌, ◌++◌, ◌+◌, ◌∙◌, ◌∷◌, ◌≡◌, ◌≤◌, [], ap, append-nil, append_assoc, ap₂, arith, length, min, refl, subst, suc, sym, take, zero, Bool, Err, List, None, Ok, Option, Result, Some, ℕ}
 use Rattle.std.specs.Prelude.{codes, decimal, slice_get, Contains, IfErr, IfOk, IsErrAnd}
-use Rattle.std.specs.Option.{option_or, option_to_list}
+use Rattle.std.specs.Option.{option_or}
 use Rattle.std.proofs.lemmas.List.Elements.{Contains-append_right}
-use Rattle.std.proofs.lemmas.List.Sums.{sum_by-append}
 use Rattle.dump_io.specs.Dumps.{DeviceState, ReadsAtMost}
 use Rattle.dump_io.specs.Laws.Reads.{ReadsAtMost-then}
 use Rattle.dump_io.specs.Limits.{Numbers}
-use Rattle.dump_sections.specs.Bodies.{body_in, body_length, body_size, body_start}
+use Rattle.dump_sections.specs.Bodies.{body_in, body_size, body_start}
 use Rattle.dump_sections.specs.Index.{index_of, sections_in, Contents}
 use Rattle.dump_sections.specs.Loading.{bodies_length}
+use Rattle.dump_sections.specs.LoadingLaws.{bodies-two}
 use Rattle.dump_sections.specs.Sections.{sections, Section}
 use Rattle.binary_payloads.specs.declared.enc.Enc.{Enc}
 use Rattle.heap_cells.specs.Cells.{first_cells}
 use Rattle.heap_cells.specs.DumpHeaps.{heap_map}
-use Rattle.heap_cells.specs.Loading.{enc_of, heap_bodies, heap_section, literals_section, two_bodies}
+use Rattle.heap_cells.specs.Loading.{enc_of, heap_bodies, heap_section, literals_section}
 use Rattle.heap_lines.specs.Wholes.{cells_in, text_size, HasLines}
 use Rattle.heap_lines.specs.declared.whole.HeapLines.{HeapLines}
 use Rattle.heap_parts.specs.Firsts.{IsLawful}
@@ -32,17 +32,16 @@ use Rattle.term_unfold.specs.DumpWalks.{walk_of}
 use Rattle.term_unfold.specs.Parts.{answer_in, has_cell}
 use Rattle.term_unfold.specs.Walks.{Walk}
 use Rattle.dump_questions.specs.Meaning.{no_body, no_process, part_in, Meaning}
-use Rattle.dump_questions.specs.Heaps.{address_cause, binary_count, heap_text_size, of_part}
+use Rattle.dump_questions.specs.Heaps.{address_cause, binary_count, heap_text_size, of_part, walk_question}
 use Rattle.dump_questions.specs.Tasks.{refusal_listed}
-use Rattle.heap_commands.specs.Loads.{lacks, unknown_cause, walk_in, AreAnswered, GivesPart, ReadsPart}
+use Rattle.heap_commands.specs.Inner.Loads.{lacks, unknown_cause, walk_in, AreAnswered, GivesPart, ReadsPart}
 use Rattle.heap_commands.specs.declared.peek.HeapPart.{HeapPart}
 use Rattle.dump_questions.specs.Reading.{HasRead, IsHalted, IsIndexed, ReadsFor, StopsFor, Takes}
 use Rattle.dump_questions.specs.Stops.{Judges}
 use Rattle.dump_questions.specs.declared.stop.Stop.{Stop}
 use Rattle.dump_questions.specs.declared.stop.Stop.TheVariants.{NoMemory, NotRead, NotWritten, Refused}
-use Rattle.dump_questions.proofs.Bodies.{size-one}
-use Rattle.dump_questions.proofs.HeapLoads.{bytes-loaded}
-use Rattle.dump_questions.proofs.Reading.{HasRead-listed, StopsFor-judged, StopsFor-too, Takes-listed}
+use Rattle.dump_questions.specs.Laws.Heaps.{bytes-loaded}
+use Rattle.dump_questions.specs.Laws.Reading.{HasRead-listed, StopsFor-judged, StopsFor-too, Takes-listed}
 
 -- ---- why it wasn't read
 
@@ -63,10 +62,6 @@ IfErr-halted P (Err e) stop is stopped = subst P (sym is) stopped
 pub stopped : {V E : Type 0} (P : Result V E → Type 0) (result : Result V E) (stop : E) → IsErrAnd result (λ e. e ≡ stop) → P (Err stop) → P result
 stopped P (Ok value) stop is said = absurd is
 stopped P (Err e) stop is said = subst (λ e. P (Err e)) (sym is) said
-
--- two of them
-size-two : (heap literals : Option Section) → bodies_length (two_bodies heap literals) ≡ body_size heap + body_size literals
-size-two heap literals = sum_by-append body_length (option_to_list heap) (option_to_list literals) ∙ ap₂ (λ m n. m + n) (size-one heap) (size-one literals)
 
 -- ---- what the load of a part gives
 
@@ -93,7 +88,7 @@ module _ (pid : List ℕ) (addr : Option ℕ) (terms : List Element) (nodes : �
       record {
         count = count;
         reads = reads;
-        few = λ bytes all. omega (arith, few, size-two (heap_section pid (sections_in index)) (literals_section (sections_in index)));
+        few = λ bytes all. omega (arith, few, bodies-two (heap_section pid (sections_in index)) (literals_section (sections_in index)));
         part = StopsFor-too old new (λ why. ⊥) _ stop cause (λ why none. absurd none);
       }
 
@@ -108,7 +103,7 @@ module _ (pid : List ℕ) (addr : Option ℕ) (terms : List Element) (nodes : �
         record {
           count = lines_size;
           reads = reads;
-          few = λ bytes all. omega (arith, size-two (heap_section pid (sections_in index)) (literals_section (sections_in index)));
+          few = λ bytes all. omega (arith, bodies-two (heap_section pid (sections_in index)) (literals_section (sections_in index)));
           part = StopsFor-judged old new _ T (unknown_cause addr known) stop judged (λ why is bytes all. told bytes all ∙ is);
         }
 
@@ -120,7 +115,7 @@ module _ (pid : List ℕ) (addr : Option ℕ) (terms : List Element) (nodes : �
           → lines_size + (16 * (min limits.section (text_size lines) + 4) + 128 * part.count)
           ≤ bodies_length (heap_bodies pid (sections_in index)) + (16 * (min limits.section (heap_text_size pid bytes) + 4) + 128 * binary_count pid bytes)
       few-terms bytes all =
-          let bodies = size-two (heap_section pid (sections_in index)) (literals_section (sections_in index)) in
+          let bodies = bodies-two (heap_section pid (sections_in index)) (literals_section (sections_in index)) in
           let same : bodies_length (heap_bodies pid (sections_in index)) ≡ bodies_length (heap_bodies pid (sections bytes)) = ap (λ i. bodies_length (heap_bodies pid (sections_in i))) all.is in
           let text : text_size lines ≤ heap_text_size pid bytes = omega (arith, bodies, same, sized bytes all) in
           omega (arith, bodies, text, part.few (cells_in pid bytes) (has bytes all))
@@ -149,10 +144,20 @@ module _ (pid : List ℕ) (addr : Option ℕ) (terms : List Element) (nodes : �
 
 -- ---- a question on a part of a heap
 
+-- one that shows this text of the walk over the heap, and is refused if the heap lacks the address
+abbrev pub peeked : List ℕ → (List Section → List Section) → Option ℕ → (List ℕ → Walk → List ℕ) → Meaning
+peeked pid before addr text = of_part (record (walk_question pid) {
+  also = before;
+  refuses = lacks addr;
+  What = List ℕ;
+  what = λ bytes. text bytes (walk_of pid bytes);
+  show = λ text. text;
+})
+
 module _ (pid : List ℕ) (before : List Section → List Section) (addr : Option ℕ) (text : List ℕ → Walk → List ℕ) (limits : Numbers) (index : Contents) (old mid : DeviceState)
     (there : no_process pid (sections_in index) ≡ None) (count : ℕ) (first : ReadsAtMost old mid count) (few : count ≤ bodies_length (before (sections_in index))) where
   abbrev means : Meaning
-  means = of_part pid before (lacks addr) text
+  means = peeked pid before addr text
 
   listed-part : refusal_listed means (sections_in index) limits ≡ None
   listed-part = ap (λ o. option_or o None) there
@@ -196,7 +201,7 @@ pub ReadsFor-peeked : (pid : List ℕ) (addr : Option ℕ) (text : List ℕ → 
     (seen : HeapPart → List ℕ) (result : Result HeapPart Stop) → no_process pid (sections_in index) ≡ None → ReadsAtMost old old 0 → GivesPart pid addr terms nodes limits index old new result
     → ((part : HeapPart) (bytes : List ℕ) → ((e : Element) → Contains terms e → (marked : Bool) → answer_over (walk_in part) nodes marked e ≡ answer_over (walk_of pid bytes) nodes marked e)
     → seen part ≡ text bytes (walk_of pid bytes))
-    → ReadsFor (of_part pid no_body (lacks addr) text) limits index old new seen result
+    → ReadsFor (peeked pid no_body addr text) limits index old new seen result
 ReadsFor-peeked pid addr text limits index old new terms nodes seen (Ok part) there none gives shows =
     HasRead-behind pid no_body addr text limits index old old there 0 none (omega arith) terms nodes new part (seen part) gives (λ bytes all. shows part bytes)
 ReadsFor-peeked pid addr text limits index old new terms nodes seen (Err stop) there none gives shows =

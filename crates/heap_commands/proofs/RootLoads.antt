@@ -1,15 +1,14 @@
--- What the commands over the roots of a process have read.
+-- What the questions over the roots of a process have read.
 use Rattle.dump_sections.specs.declared.bodies.BodyFault.TheVariants as body_faults
-use Rattle.std.proofs.Common.{◌++◌, ◌+◌, ◌∙◌, ◌≡◌, [], ap, arith, refl, subst, sym, Err, List, None, Ok, Option, Result, Some, ℕ}
+use Rattle.std.proofs.Common.{◌++◌, ◌∙◌, ◌≡◌, [], ap, arith, refl, subst, sym, Err, List, None, Ok, Option, Result, Some, ℕ}
 use Rattle.std.specs.Prelude.{is_some, unwrap_or, IfOk, IsSome, MatchResult}
 use Rattle.std.specs.Global.{Vec}
 use Rattle.dump_sections.specs.Bodies.{body_in, body_start, section_in}
 use Rattle.dump_sections.specs.Index.{index_of, sections_in, Contents}
 use Rattle.dump_sections.specs.Lookups.{first_named}
-use Rattle.dump_sections.specs.Sections.{sections, Section}
+use Rattle.dump_sections.specs.Sections.{Section}
 use Rattle.heap_cells.specs.HeapMap.{HeapMap}
 use Rattle.heap_cells.specs.Loading.{heap_bodies}
-use Rattle.report_text.specs.declared.refusals.Refusal.TheVariants.{SectionTooLarge}
 use Rattle.dump_sections.specs.Loading.{bodies_length, large_fault, AreRefused}
 use Rattle.dump_sections.specs.declared.bodies.LargeSection.{LargeSection}
 use Rattle.dump_io.specs.Dumps.{told, DeviceState, ReadsAtMost}
@@ -27,9 +26,9 @@ use Rattle.heap_commands.specs.Terms.{external_at, no_external, root_terms}
 use Rattle.dump_questions.specs.Stops.{stop_of_body, Judges}
 use Rattle.dump_questions.specs.Reading.{heap_listed, HoldsHeap, IsHeapless, ReadsFor, StopsFor, Takes}
 use Rattle.dump_questions.specs.declared.stop.Stop.{Stop}
-use Rattle.heap_commands.specs.Loads.{roots_at, terms_loaded, ArePlaces, AreUnread, HoldsRoots}
+use Rattle.heap_commands.specs.Inner.Loads.{roots_at, terms_loaded, ArePlaces, AreUnread, HoldsRoots}
 use Rattle.dump_questions.specs.Bodies.{shown_body}
-use Rattle.dump_questions.proofs.HeapLoads.{HasRead-heap, IsHalted-heap, IsHalted-refused, Takes-heap}
+use Rattle.dump_questions.specs.Laws.Heaps.{HasRead-heap, IsHalted-heap, IsHalted-refused, Takes-heap}
 use Rattle.dump_questions.specs.declared.subjects.Body.{Body}
 use Rattle.heap_commands.specs.declared.reach.RootPlaces.{RootPlaces}
 use Rattle.heap_commands.specs.declared.reach.RootBodies.{RootBodies}
@@ -46,6 +45,7 @@ module _ (before after : DeviceState) where
   AreUnread-refused ss limit body_faults.Memory cause = tt
   AreUnread-refused ss limit (body_faults.SectionTooLarge at len) cause = ap is_some cause
 
+-- a section that was found by the tag of its kind is that with the roots of the process
 pub roots-found : (kind : RootKind) (pid tag : List ℕ) (index : Contents) (place : Option ℕ) → tag ≡ roots_tag kind
     → section_in index place ≡ first_named tag pid (sections_in index) → section_in index place ≡ root_section kind pid (sections_in index)
 roots-found kind pid tag index place tagged is = is ∙ ap (λ t. first_named t pid (sections_in index)) tagged
@@ -62,7 +62,7 @@ terms-told pid bytes index places loaded is of held = rw (held.stack, held.dict,
 abbrev rooted : Walk → Part → Rooted
 rooted walk part = record { walk = walk; part = part }
 
--- so are the body with the roots of one kind, and what a walker goes over
+-- the body with the roots of one kind, and what a walker goes over, are those of the dump
 pub roots-told : (kind : RootKind) (pid bytes : List ℕ) (index : Contents) (walk : Walk) (body : Body) → index ≡ index_of bytes → walk ≡ walk_of pid bytes
     → body.base ≡ body_start (root_section kind pid (sections_in index)) → body.bytes.items ≡ body_in bytes (root_section kind pid (sections_in index))
     → rooted walk (shown_body body) ≡ rooted (walk_of pid bytes) (part_in (root_section kind pid) bytes)
@@ -79,24 +79,26 @@ added-three Is f g h a b c d first second third x y z one two three none add_fir
     subst (Is d) (ap (λ v. (f v ++ g second) ++ h third) one ∙ ap (λ v. (f x ++ g v) ++ h third) two ∙ ap (λ v. (f x ++ g y) ++ h v) three)
     (add_third (f first ++ g second) (add_second (f first) (add_first [] none)))
 
--- ---- the commands that end with the heap
+-- ---- the questions that end with the heap
 
+-- the heap was loaded for `cells`, or wasn't
 pub reads-cells : (pid : List ℕ) (limits : Numbers) (index : Contents) (old new : DeviceState) (result : Result HeapMap Stop)
     → ReadsAtMost old new (bodies_length (heap_bodies pid (sections_in index)))
     → (IsSome (heap_listed pid [] limits (sections_in index)) → ReadsAtMost old new 0)
     → MatchResult result (HoldsHeap pid [] limits index old.now) (IsHeapless pid [] limits index old new)
     → ReadsFor (cells_row pid) limits index old new (λ heap. heap) result
 reads-cells pid limits index old new (Ok heap) reads unread holds =
-    HasRead-heap pid no_body never _ _ (λ bytes. 0) limits index old new heap holds heap
-    (Takes-heap pid no_body never _ _ (λ bytes. 0) limits index old new heap holds _ 0 reads (omega arith) (λ bytes all. omega arith))
+    HasRead-heap pid no_body never _ _ (λ limits bytes. 0) limits index old new heap holds heap
+    (Takes-heap pid no_body never _ _ (λ limits bytes. 0) limits index old new heap holds _ 0 reads (omega arith) (λ bytes all. omega arith))
     refl (λ bytes all. holds.is bytes all)
 reads-cells pid limits index old new (Err stop) reads unread cause =
-    IsHalted-heap pid no_body never _ _ (λ bytes. 0) limits index old new stop reads unread cause
+    IsHalted-heap pid no_body never _ _ (λ limits bytes. 0) limits index old new stop reads unread cause
 
 -- the bytes of the external term at an address, if it is one
 abbrev external_bytes : ℕ → HeapMap → List ℕ
 external_bytes addr heap = unwrap_or (external_at addr heap) []
 
+-- the heap was loaded for `ext`, which is refused if the term isn't there
 pub reads-ext : (pid : List ℕ) (addr : ℕ) (limits : Numbers) (index : Contents) (old new : DeviceState) (heap : HeapMap) (result : Result (Vec ℕ) Stop)
     → ReadsAtMost old new (bodies_length (heap_bodies pid (sections_in index))) → HoldsHeap pid [] limits index old.now heap
     → Judges (no_external addr heap) result → IfOk result (λ payload. external_at addr heap ≡ Some payload.items)
@@ -104,12 +106,12 @@ pub reads-ext : (pid : List ℕ) (addr : ℕ) (limits : Numbers) (index : Conten
 reads-ext pid addr limits index old new heap result reads holds judged found = by result judged found
   where
     takes : Takes (ext_row pid addr) limits index old new
-    takes = Takes-heap pid no_body (no_external addr) _ _ (λ bytes. 0) limits index old new heap holds _ 0 reads (omega arith) (λ bytes all. omega arith)
+    takes = Takes-heap pid no_body (no_external addr) _ _ (λ limits bytes. 0) limits index old new heap holds _ 0 reads (omega arith) (λ bytes all. omega arith)
 
     by : (result : Result (Vec ℕ) Stop) → Judges (no_external addr heap) result → IfOk result (λ payload. external_at addr heap ≡ Some payload.items)
         → ReadsFor (ext_row pid addr) limits index old new (λ payload. payload.items) result
     by (Ok payload) judged found =
-        HasRead-heap pid no_body (no_external addr) _ _ (λ bytes. 0) limits index old new heap holds payload.items takes judged
+        HasRead-heap pid no_body (no_external addr) _ _ (λ limits bytes. 0) limits index old new heap holds payload.items takes judged
         (λ bytes all. ap (λ o. unwrap_or o []) (sym found) ∙ ap (external_bytes addr) (holds.is bytes all))
     by (Err stop) judged found =
-        IsHalted-refused pid no_body (no_external addr) _ _ (λ bytes. 0) limits index old new heap holds (Vec ℕ) stop takes judged
+        IsHalted-refused pid no_body (no_external addr) _ _ (λ limits bytes. 0) limits index old new heap holds (Vec ℕ) stop takes judged

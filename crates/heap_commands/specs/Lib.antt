@@ -1,3 +1,3 @@
-pub mod Loads
+pub mod Inner
 pub mod Rows
 pub mod Terms

@@ -1,6 +1,6 @@
 -- What the questions on the terms of a process, and on a binary, report on the bytes of an accepted dump.
 use Rattle.dump_questions.specs.Heaps.{no_address}
-use Rattle.std.specs.Prelude.{◌++◌, ◌+◌, [], if◌then◌else◌, is_some, unwrap_or, List, None, Option, Some, ℕ}
+use Rattle.std.specs.Prelude.{◌++◌, [], if◌then◌else◌, is_some, unwrap_or, List, None, Option, Some, ℕ}
 use Rattle.std.specs.Option.{option_and_then, option_map, option_or}
 use Rattle.dump_sections.specs.Bodies.{body_in}
 use Rattle.dump_sections.specs.Index.{index_of}
@@ -26,7 +26,7 @@ abbrev pub external_in : Enc → HeapForm → Option (List ℕ)
 external_in enc (Ext size chars) = counted_bytes enc size chars
 external_in enc form = None
 
--- those of the heap's cell at an address
+-- the bytes of the external term that is the cell at an address of the heap, if it is one
 abbrev pub external_at : ℕ → HeapMap → Option (List ℕ)
 external_at addr heap = option_and_then (external_in heap.enc) (option_and_then (form_at heap.cells) (number_at heap.cells addr))
 
@@ -43,7 +43,7 @@ no_external addr heap = option_or (no_address addr heap) (external_cause addr (e
 abbrev pub terms_in : RootKind → List ℕ → List ℕ → List Element
 terms_in kind pid bytes = root_elements (roots_in kind (body_in bytes (root_section kind pid (sections bytes))))
 
--- those among all its roots: of its stack, its dictionary and its mailbox
+-- the terms among all roots of a process: of its stack, its dictionary and its mailbox
 abbrev pub root_terms : List ℕ → List ℕ → List Element
 root_terms pid bytes = (terms_in Stack pid bytes ++ terms_in Dict pid bytes) ++ terms_in Mail pid bytes
 
@@ -58,7 +58,8 @@ malformed_cause at None = Some (BadBinary at)
 
 -- why a binary can't be written, or `None`
 abbrev pub bad_binary : ℕ → List ℕ → Option Refusal
-bad_binary addr bytes = option_and_then (λ s. malformed_cause s.at (whole_bytes bytes (index_of bytes) addr)) (binary_section addr (sections bytes))
+bad_binary addr bytes =
+    option_and_then (λ s. malformed_cause s.at (whole_bytes bytes (index_of bytes) addr)) (binary_section addr (sections bytes))
 
 -- no section is that of the binary
 abbrev pub binary_cause : ℕ → Option Section → Option Refusal

@@ -26,7 +26,7 @@ pub(crate) struct Binary {
     pub addr: u64,
 }
 
-// The place of the section of a binary. An address without such a section is refused.
+// Finds the section of a binary, and returns its place. Refuses an address without such a section.
 fn find_binary(at: &Opened<'_>, addr: u64) -> Result<usize, Stop>
     ensures judges { let found = binary_section addr (sections_in at.now.index.now) in
         Judges (binary_cause addr found) result }
@@ -40,7 +40,7 @@ fn find_binary(at: &Opened<'_>, addr: u64) -> Result<usize, Stop>
     Ok(place)
 }
 
-// The bytes that a body writes. It is refused if it is malformed; `at` is the offset of its section.
+// Decodes the bytes that a body writes. Refuses a malformed body, for the section at the offset `at`.
 fn read_bytes(alloc: Global, enc: Enc, body: &Body, at: u64) -> Result<Vec<u8>, Stop>
     ensures judges { Judges (malformed_cause at (bytes_of_body enc body.now.bytes.items)) result }
     ensures bytes { IfOk result (λ bytes.
@@ -72,7 +72,7 @@ impl Report for Binary {
     }
 }
 
-/// Runs the command, and returns its status.
+/// Runs `binary`, and returns its status.
 pub fn run_binary<D: Dumps, K: Sink>(
     dump: &Unopened<'_>,
     addr: u64,

@@ -31,7 +31,7 @@ impl Report for Cells<'_> {
     }
 }
 
-/// Runs the command, and returns its status.
+/// Runs `cells`, and returns its status.
 pub fn run_cells<D: Dumps, K: Sink>(
     dump: &Unopened<'_>,
     pid: &[u8],

@@ -25,7 +25,7 @@ pub(crate) struct Ext<'a> {
     pub addr: u64,
 }
 
-// The bytes of the heap's cell at an address, if it is an external term.
+// Decodes the bytes of the heap's cell at an address, if it is an external term.
 fn external_at(alloc: Global, heap: &Heap, addr: u64) -> Result<Option<Vec<u8>>, AllocError>
     ensures { IfOk result (λ bytes. bytes_in bytes ≡ external_at addr heap.now) }
 {
@@ -38,8 +38,8 @@ fn external_at(alloc: Global, heap: &Heap, addr: u64) -> Result<Option<Vec<u8>>,
     decode_payload(alloc, heap.enc(), size, chars)
 }
 
-// The bytes of the external term at an address. They are refused if the heap has no
-// cell there, if that isn't an external term, or if they aren't 131 and one term.
+// Decodes the bytes of the external term at an address. Refuses an address at which the heap has
+// no cell, a cell that isn't an external term, and bytes that aren't 131 and one term.
 fn read_external(alloc: Global, heap: &Heap, addr: u64) -> Result<Vec<u8>, Stop>
     ensures judges { Judges (no_external addr heap.now) result }
     ensures bytes { IfOk result (λ bytes. external_at addr heap.now ≡ Some bytes.items) }
@@ -76,7 +76,7 @@ impl Report for Ext<'_> {
     }
 }
 
-/// Runs the command, and returns its status.
+/// Runs `ext`, and returns its status.
 pub fn run_ext<D: Dumps, K: Sink>(
     dump: &Unopened<'_>,
     pid: &[u8],

@@ -12,7 +12,7 @@ ghost use Rattle.term_forms.specs.Seen.{element};
 ghost use Rattle.root_views.specs.Roots.{term_in};
 ghost use Rattle.term_text.specs.Reach.{root_elements};
 ghost use Rattle.term_text.specs.Roots.{answer_over, shown_report, term_report};
-ghost use Rattle.heap_commands.specs.Loads.{unknown_cause, walk_in, AreAnswered, AreRootsFound, GivesPart, ReadsPart};
+ghost use Rattle.heap_commands.specs.Inner.Loads.{unknown_cause, walk_in, AreAnswered, AreRootsFound, GivesPart, ReadsPart};
 ghost use Rattle.dump_questions.specs.Reading.{StopsFor};
 ghost use Rattle.dump_questions.specs.Stops.{Judges};
 ghost use Rattle.heap_commands.specs.Rows.{peek_roots_row, peek_term_row};
@@ -250,7 +250,7 @@ impl Report for PeekRoots<'_> {
     }
 }
 
-/// Runs the command, and returns its status.
+/// Runs `peek` with an address, and returns its status.
 pub fn run_peek_term<D: Dumps, K: Sink>(
     dump: &Unopened<'_>,
     pid: &[u8],
@@ -273,7 +273,7 @@ pub fn run_peek_term<D: Dumps, K: Sink>(
     run_report(dump, &term, dumps, out)
 }
 
-/// Runs the command, and returns its status.
+/// Runs `peek` with a kind of roots, and returns its status.
 pub fn run_peek_roots<D: Dumps, K: Sink>(
     dump: &Unopened<'_>,
     kind: RootKind,

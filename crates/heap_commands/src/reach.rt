@@ -6,7 +6,7 @@ ghost use Rattle.dump_sections.specs.Loading.{bodies_length, large_fault};
 ghost use Rattle.dump_sections.specs.Bodies.{section_in};
 ghost use Rattle.heap_reach.specs.Rounds.{IsReachOf};
 ghost use Rattle.root_views.specs.Sections.{root_section};
-ghost use Rattle.heap_commands.specs.Loads.{roots_at, seen_reach, terms_loaded, ArePlaces, AreUnread, AreWithin, HoldsRoots};
+ghost use Rattle.heap_commands.specs.Inner.Loads.{roots_at, seen_reach, terms_loaded, ArePlaces, AreUnread, AreWithin, HoldsRoots};
 ghost use Rattle.heap_commands.specs.Rows.{reach_row};
 ghost use Rattle.dump_questions.specs.Runs.{Runs};
 ghost use Rattle.dump_questions.specs.Tasks.{question};
@@ -32,7 +32,7 @@ pub struct RootPlaces {
     mail: Option<usize>,
 }
 
-/// The bodies of these sections.
+/// The bodies of the sections with the roots of a process.
 #[derive(Drop)]
 pub struct RootBodies {
     stack: Body,
@@ -47,6 +47,7 @@ pub struct Loaded {
     roots: RootBodies,
 }
 
+// Finds the section with the roots of one kind.
 fn place_of(at: &Opened<'_>, kind: RootKind, pid: &[u8]) -> Option<usize>
     ensures section { let index = at.now.index.now in
         section_in index result ≡ root_section kind pid.now (sections_in index) }
@@ -55,6 +56,7 @@ fn place_of(at: &Opened<'_>, kind: RootKind, pid: &[u8]) -> Option<usize>
     at.index.first(kind.tag(), Some(pid))
 }
 
+// Finds the sections with the roots of a process.
 fn root_places(at: &Opened<'_>, pid: &[u8]) -> RootPlaces
     ensures sections { ArePlaces pid.now at.now.index.now result }
     ensures within { AreWithin at.now.index.now result }
@@ -66,7 +68,7 @@ fn root_places(at: &Opened<'_>, pid: &[u8]) -> RootPlaces
     }
 }
 
-// The first of the sections whose body has more bytes than the limit.
+// Returns the first of the sections with roots whose body has more bytes than the limit.
 fn large_roots(at: &Opened<'_>, places: RootPlaces) -> Option<LargeSection>
     requires { AreWithin at.now.index.now places }
     ensures { result ≡ large_fault at.now.limits.now.section (roots_at at.now.index.now places) }
@@ -77,7 +79,7 @@ fn large_roots(at: &Opened<'_>, places: RootPlaces) -> Option<LargeSection>
     first.or(second).or(third)
 }
 
-// Reads the bodies. A missing section counts as empty.
+// Reads the bodies of the sections with roots. A missing section counts as empty.
 fn read_roots<D: Dumps>(
     at: &Opened<'_>,
     dumps: &mut D,
@@ -132,7 +134,7 @@ impl Report for Reach<'_> {
     }
 }
 
-/// Runs the command, and returns its status.
+/// Runs `reach`, and returns its status.
 pub fn run_reach<D: Dumps, K: Sink>(
     dump: &Unopened<'_>,
     pid: &[u8],

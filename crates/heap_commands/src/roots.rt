@@ -2,7 +2,7 @@
 ghost use Rattle.std.specs.Prelude.{◌<◌};
 ghost use Rattle.binary_refs.specs.Previews.{AreFor};
 ghost use Rattle.dump_questions.specs.Bodies.{HasPlaces};
-ghost use Rattle.heap_commands.specs.Loads.{seen_roots};
+ghost use Rattle.heap_commands.specs.Inner.Loads.{seen_roots};
 ghost use Rattle.heap_commands.specs.Rows.{roots_row};
 ghost use Rattle.dump_questions.specs.Runs.{Runs};
 ghost use Rattle.dump_questions.specs.Tasks.{question};
@@ -72,7 +72,7 @@ impl Report for Roots<'_> {
     }
 }
 
-/// Runs the command, and returns its status.
+/// Runs `stack`, `dict` or `mail`, and returns its status.
 pub fn run_roots<D: Dumps, K: Sink>(
     dump: &Unopened<'_>,
     kind: RootKind,

@@ -54,7 +54,7 @@ impl Report for Term<'_> {
     }
 }
 
-/// Runs the command, and returns its status.
+/// Runs `term`, and returns its status.
 pub fn run_term<D: Dumps, K: Sink>(
     dump: &Unopened<'_>,
     pid: &[u8],

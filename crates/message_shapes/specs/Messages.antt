@@ -12,6 +12,7 @@ use Rattle.root_views.specs.Sections.{root_section}
 use Rattle.root_views.specs.declared.kinds.RootKind.TheVariants.{Mail}
 use Rattle.size_order.specs.Sorting.{most_first}
 use Rattle.text_groups.specs.Groups.{Item, groups}
+use Rattle.text_groups.specs.Numbers.{weightless}
 use Rattle.text_groups.specs.declared.text_group.TextGroup.{TextGroup}
 use Rattle.message_shapes.specs.Shapes.{message_shape}
 
@@ -24,19 +25,19 @@ pub record Message : Type 0 where
 abbrev pub message_at : List Message → ℕ → Message
 message_at messages i = slice_index_or messages i (record { at = 0; shape = [] })
 
--- that of a root that is one
+-- the message of a root that is one
 abbrev pub message_of : List Cell → BodyRoot → Message
 message_of cells root = record { at = root.at; shape = message_shape cells root.content }
 
--- those of the roots of a mailbox; tokens are none
+-- the messages of the roots of a mailbox; tokens are none
 abbrev pub messages_of : List Cell → List BodyRoot → List Message
 messages_of cells roots = map (message_of cells) (filter is_message roots)
 
--- ---- which of them have the same shape
+-- ---- which messages have the same shape
 
 -- a message as one of those that are grouped
 abbrev pub item_of : Message → Item
-item_of message = record { text = message.shape; weight = 0 }
+item_of message = weightless message.shape
 
 -- the groups of messages that have the same shape, the largest first, of equal ones that whose first message comes first
 abbrev pub shape_groups : List Message → List TextGroup
@@ -68,6 +69,6 @@ mail_cells dump index pid =
     let heap = heap_in dump index (heap_section pid sections) (literals_section sections) in
     heap.cells
 
--- its messages, with their groups
+-- the messages of a process's mailbox, with their groups
 abbrev pub mail_shapes : List ℕ → Contents → List ℕ → ShapeMap
 mail_shapes dump index pid = grouped_by_shape (messages_of (mail_cells dump index pid) (mail_roots dump index pid))

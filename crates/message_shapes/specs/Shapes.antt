@@ -7,6 +7,11 @@ use Rattle.heap_cells.specs.HeapMap.{form_at, number_at}
 use Rattle.root_views.specs.Roots.{Content, Term, Info, Dist, Unread}
 use Rattle.term_forms.specs.Elements.{Element, Nil, Small, Atom, Pid, Port, Ref}
 use Rattle.term_forms.specs.Forms as form
+use Rattle.text_groups.specs.Cut.{cut_text}
+
+-- the text of an atom in a shape
+abbrev pub atom_shape : List ℕ → List ℕ
+atom_shape name = cut_text (atom_text name)
 
 -- texts with `,` between each two of them
 abbrev pub comma_list : List (List ℕ) → List ℕ
@@ -24,7 +29,7 @@ tuple_text texts = codes "{" ++ (comma_list (first_eight texts) ++ codes "}")
 
 -- the first element of a tuple inside a message: an atom is shown
 abbrev pub tag_text : Element → List ℕ
-tag_text (Atom name) = atom_text name
+tag_text (Atom name) = atom_shape name
 tag_text e = codes "_"
 
 -- the elements of a tuple inside a message: no other one is shown
@@ -53,7 +58,7 @@ form_shape (Some (form.Node children)) = codes "malformed()"
 abbrev pub element_shape : List Cell → Element → List ℕ
 element_shape cells Nil = codes "[]"
 element_shape cells (Small integer) = codes "integer()"
-element_shape cells (Atom name) = atom_text name
+element_shape cells (Atom name) = atom_shape name
 element_shape cells (Pid pid) = codes "pid()"
 element_shape cells (Port port) = codes "port()"
 element_shape cells (Ref address) = option_map_or (λ n. form_shape (form_at cells n)) (number_at cells address) (codes "missing()")

@@ -35,7 +35,7 @@ impl CellSet {
         CellSet { sorted: numbers }
     }
 
-    /// Their numbers.
+    /// The numbers of the cells in the set.
     pub(crate) fn numbers(&self) -> &[u32]
         ensures value { result.now ≡ self.now }
         ensures ascending { IsStrictlyIncreasing result.now }

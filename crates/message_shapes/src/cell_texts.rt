@@ -2,7 +2,7 @@
 ghost use Rattle.std.specs.Prelude.{◌≡◌, ◌<◌, ◌++◌, All, length, map, IfOk, OnOk};
 ghost use Rattle.term_forms.specs.Seen.{element};
 ghost use Rattle.message_shapes.specs.Shapes.{comma_list, tag_texts};
-ghost use Rattle.message_shapes.specs.Inner.CellTexts.{element_text, element_texts, inner_text, size_of, subject_text, tag_at, tuple_with};
+ghost use Rattle.message_shapes.specs.Inner.CellTexts.{element_text, element_texts, inner_text, size_of, subject_text, tag_at, tuple_with, AreInner};
 ghost use Rattle.message_shapes.specs.Inner.Tuples.{front_at};
 
 use crate::cell_set::CellSet;
@@ -64,8 +64,8 @@ fn push_inner_tuple(
     push_end(text, tuples.count(cell), skeleton.places(cell))
 }
 
-// Appends the shape of a cell inside a message.
-fn push_inner(
+// Makes the shape of a cell inside a message.
+fn push_new_inner(
     alloc: Global,
     text: &mut Vec<u8>,
     skeleton: &Skeleton,
@@ -82,20 +82,60 @@ fn push_inner(
     }
 }
 
+/// The shapes that tuples have inside messages. Each is made once, however many messages show it.
+pub(crate) fn inner_texts(
+    alloc: Global,
+    skeleton: &Skeleton,
+    tuples: &Tuples,
+) -> Result<Texts, AllocError>
+    requires { All (λ n. n < length skeleton.now.leads) tuples.now.cells }
+    ensures { IfOk result (AreInner skeleton.now tuples.now) }
+{
+    let mut texts = Texts::new(alloc);
+    let mut text = Vec::new(alloc);
+    for cell in tuples.cells() {
+        text.clear();
+        push_new_inner(alloc, &mut text, skeleton, tuples, *cell)?;
+        texts.push(&text)?;
+    }
+    Ok(texts)
+}
+
+// Appends the shape of a cell inside a message, given those of tuples.
+fn push_inner(
+    alloc: Global,
+    text: &mut Vec<u8>,
+    skeleton: &Skeleton,
+    tuples: &Tuples,
+    inner: &Texts,
+    cell: u32,
+) -> Result<(), AllocError>
+    requires cell { cell < length skeleton.now.leads }
+    requires inner { AreInner skeleton.now tuples.now inner.now }
+    ensures { OnOk result (text.new.items ≡ text.old.items ++ inner_text skeleton.now tuples.now cell) }
+{
+    match tuples.place(cell) {
+        Some(place) => text.extend_from_slice(inner.get(place)),
+        None => push_new_inner(alloc, text, skeleton, tuples, cell),
+    }
+}
+
 // Appends the shape of an element of a message.
 fn push_element(
     alloc: Global,
     text: &mut Vec<u8>,
     skeleton: &Skeleton,
     tuples: &Tuples,
+    inner: &Texts,
     e: &Elem<'_>,
 ) -> Result<(), AllocError>
+    requires { AreInner skeleton.now tuples.now inner.now }
     ensures { OnOk result (text.new.items ≡ text.old.items
         ++ element_text skeleton.now tuples.now (element e.now)) }
 {
     if let Elem::Ref(address) = e {
         if let Some(cell) = skeleton.find(*address) {
-            return push_inner(alloc, text, skeleton, tuples, cell);
+            return push_inner(alloc, text, skeleton, tuples, inner, cell);
         }
     }
     push_plain(alloc, text, e)
@@ -107,14 +147,23 @@ fn push_elements(
     text: &mut Vec<u8>,
     skeleton: &Skeleton,
     tuples: &Tuples,
+    inner: &Texts,
     cell: u32,
 ) -> Result<(), AllocError>
+    requires { AreInner skeleton.now tuples.now inner.now }
     ensures { OnOk result (text.new.items ≡ text.old.items
         ++ comma_list (element_texts skeleton.now tuples.now cell)) }
 {
     for place in 0..tuples.count(cell) {
         push_comma(text, place)?;
-        push_element(alloc, text, skeleton, tuples, &tuples.element(cell, place))?;
+        push_element(
+            alloc,
+            text,
+            skeleton,
+            tuples,
+            inner,
+            &tuples.element(cell, place),
+        )?;
     }
     Ok(())
 }
@@ -125,14 +174,16 @@ fn push_subject_tuple(
     text: &mut Vec<u8>,
     skeleton: &Skeleton,
     tuples: &Tuples,
+    inner: &Texts,
     cell: u32,
 ) -> Result<(), AllocError>
-    requires { cell < length skeleton.now.leads }
+    requires cell { cell < length skeleton.now.leads }
+    requires inner { AreInner skeleton.now tuples.now inner.now }
     ensures { OnOk result (text.new.items ≡ text.old.items
         ++ tuple_with (size_of skeleton.now cell) (element_texts skeleton.now tuples.now cell)) }
 {
     text.push(b'{')?;
-    push_elements(alloc, text, skeleton, tuples, cell)?;
+    push_elements(alloc, text, skeleton, tuples, inner, cell)?;
     push_end(text, tuples.count(cell), skeleton.places(cell))
 }
 
@@ -142,13 +193,15 @@ fn push_subject(
     text: &mut Vec<u8>,
     skeleton: &Skeleton,
     tuples: &Tuples,
+    inner: &Texts,
     cell: u32,
 ) -> Result<(), AllocError>
-    requires { cell < length skeleton.now.leads }
+    requires cell { cell < length skeleton.now.leads }
+    requires inner { AreInner skeleton.now tuples.now inner.now }
     ensures { OnOk result (text.new.items ≡ text.old.items ++ subject_text skeleton.now tuples.now cell) }
 {
     if skeleton.is_tuple(cell) {
-        push_subject_tuple(alloc, text, skeleton, tuples, cell)
+        push_subject_tuple(alloc, text, skeleton, tuples, inner, cell)
     } else {
         text.extend_from_slice(kind_word(Kinded::kind(skeleton, cell)))
     }
@@ -159,16 +212,18 @@ pub(crate) fn subject_texts(
     alloc: Global,
     skeleton: &Skeleton,
     tuples: &Tuples,
+    inner: &Texts,
     cells: &CellSet,
 ) -> Result<Texts, AllocError>
-    requires { All (λ n. n < length skeleton.now.leads) cells.now }
+    requires cells { All (λ n. n < length skeleton.now.leads) cells.now }
+    requires inner { AreInner skeleton.now tuples.now inner.now }
     ensures { IfOk result (λ texts. texts ≡ map (subject_text skeleton.now tuples.now) cells.now) }
 {
     let mut texts = Texts::new(alloc);
     let mut text = Vec::new(alloc);
     for cell in cells.numbers() {
         text.clear();
-        push_subject(alloc, &mut text, skeleton, tuples, *cell)?;
+        push_subject(alloc, &mut text, skeleton, tuples, inner, *cell)?;
         texts.push(&text)?;
     }
     Ok(texts)

@@ -1,6 +1,6 @@
 // Texts of which each is kept once.
 ghost use Rattle.std.specs.Prelude.{◌≡◌, ◌<◌, [], length, slice_get, Some, IfOk, IfSome};
-ghost use Rattle.message_shapes.specs.Inner.Texts.{IsGrown};
+ghost use Rattle.text_groups.specs.Numbers.{IsGrown};
 
 use crate::texts::Texts;
 use std::alloc::{AllocError, Global};

@@ -23,9 +23,9 @@ pub(crate) struct Found {
 /// What a message is.
 #[derive(Clone, Copy)]
 pub(crate) enum Source<'a> {
-    /// It refers to this cell.
+    /// The message refers to this cell.
     Cell(u32),
-    /// This is its shape.
+    /// This is the shape of the message.
     Text(&'a [u8]),
 }
 

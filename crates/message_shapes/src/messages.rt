@@ -1,12 +1,15 @@
 // Messages with their shapes.
-ghost use Rattle.std.specs.Prelude.{◌≡◌, ◌<◌, length};
-ghost use Rattle.message_shapes.specs.Messages.{message_at};
+ghost use Rattle.std.specs.Prelude.{◌≡◌, ◌<◌, All, length, map, IfOk};
+ghost use Rattle.text_groups.specs.Groups.{groups};
+ghost use Rattle.message_shapes.specs.Messages.{item_of, message_at};
 
 use crate::cell_set::CellSet;
 use crate::heard::{Heard, Source};
+use crate::shape_numbers::number_messages;
 use crate::texts::Texts;
+use std::alloc::{AllocError, Global};
 use std::marker::Model;
-use text_groups::Grouped;
+use text_groups::{TextGroup, group_numbers};
 
 /// Messages with their shapes. Contracts see the list of them.
 #[derive(Drop)]
@@ -58,23 +61,14 @@ impl Messages {
             },
         }
     }
-}
 
-impl Grouped for Messages {
-    ghost use Rattle.std.specs.Prelude.{map};
-    ghost use Rattle.message_shapes.specs.Messages.{item_of};
-
-    ghost items = { λ messages. map item_of messages };
-
-    fn len(&self) -> usize {
-        self.count()
-    }
-
-    fn text(&self, i: usize) -> &[u8] {
-        self.shape(i)
-    }
-
-    fn weight(&self, _i: usize) -> u64 {
-        0
+    /// The groups of messages that have the same shape, in the order of their first ones. Each different shape is compared
+    /// once for each cell that has it, and not for each message of that cell.
+    pub(crate) fn groups(&self, alloc: Global) -> Result<Vec<TextGroup>, AllocError>
+        ensures groups { IfOk result (λ found. found.items ≡ groups (map item_of self.now)) }
+        ensures firsts { IfOk result (λ found. All (λ group. group.first < length self.now) found.items) }
+    {
+        let numbers = number_messages(alloc, &self.heard, &self.cells, &self.shapes)?;
+        group_numbers(alloc, &numbers.numbers, numbers.different)
     }
 }

@@ -1,5 +1,5 @@
 // The tuples whose first elements are known.
-ghost use Rattle.std.specs.Prelude.{◌≡◌, ◌<◌, All, length, slice_get, Some, IfErr, IfOk};
+ghost use Rattle.std.specs.Prelude.{◌≡◌, ◌<◌, All, length, slice_get, Some, IfErr, IfOk, IfSome};
 ghost use Rattle.dump_io.specs.Dumps.{IfTold, ReadsAtMost};
 ghost use Rattle.dump_io.specs.Faults.{IsReadCauseOf};
 ghost use Rattle.dump_sections.specs.Index.{IsBuiltOver, sections_in};
@@ -8,7 +8,7 @@ ghost use Rattle.heap_cells.specs.Loading.{heap_bodies};
 ghost use Rattle.heap_skeleton.specs.Skeletons.{skeleton_for};
 ghost use Rattle.term_forms.specs.Seen.{element};
 ghost use Rattle.tuple_fronts.specs.Fronts.{fronts_for};
-ghost use Rattle.message_shapes.specs.Inner.Tuples.{front_at};
+ghost use Rattle.message_shapes.specs.Inner.Tuples.{front_at, place_of};
 
 use crate::cell_set::CellSet;
 use dump_io::{Dumps, ReadFault};
@@ -61,6 +61,21 @@ impl Tuples {
         skeleton.leads_are_cells();
         let fronts = TupleFronts::load(alloc, dumps, index, pid, skeleton, cells.numbers())?;
         Ok(Tuples { cells, fronts })
+    }
+
+    /// The cells whose first elements are known.
+    pub(crate) fn cells(&self) -> &[u32]
+        ensures { result.now ≡ self.now.cells }
+    {
+        self.cells.numbers()
+    }
+
+    /// The place of a cell among them, if it is one of them.
+    pub(crate) fn place(&self, cell: u32) -> Option<usize>
+        ensures value { result ≡ place_of self.now.cells cell }
+        ensures within { IfSome result (λ i. i < length self.now.cells) }
+    {
+        self.cells.place(cell)
     }
 
     /// How many first elements of a cell are known.

@@ -1,8 +1,7 @@
 // The words that shapes are made of.
 ghost use Rattle.std.specs.Prelude.{◌≡◌, ◌++◌, OnOk};
-ghost use Rattle.dump_io.specs.Atoms.{atom_text};
 ghost use Rattle.term_forms.specs.Seen.{element};
-ghost use Rattle.message_shapes.specs.Shapes.{tag_text};
+ghost use Rattle.message_shapes.specs.Shapes.{atom_shape, tag_text};
 ghost use Rattle.message_shapes.specs.Inner.CellTexts.{comma_behind, end_text, kind_text};
 ghost use Rattle.message_shapes.specs.Inner.Telling.{plain_shape};
 
@@ -10,17 +9,18 @@ use dump_io::{MemSink, put_atom};
 use heap_skeleton::Kind;
 use std::alloc::{AllocError, Global};
 use term_forms::shapes::Elem;
+use text_groups::cut_text;
 use tuple_fronts::MOST_ELEMENTS;
 
-// Appends the text of an atom.
+// Appends the text of an atom, which is cut.
 fn push_atom(alloc: Global, text: &mut Vec<u8>, name: &[u8]) -> Result<(), AllocError>
-    ensures { OnOk result (text.new.items ≡ text.old.items ++ atom_text name.now) }
+    ensures { OnOk result (text.new.items ≡ text.old.items ++ atom_shape name.now) }
 {
     let mut sink = MemSink::new(alloc, 0, Vec::new(alloc));
     let Ok(()) = put_atom(&mut sink, name) else {
         return Err(AllocError);
     };
-    text.extend_from_slice(sink.written())
+    text.extend_from_slice(cut_text(sink.written()))
 }
 
 /// Appends the shape of an element that leads to no cell.

@@ -14,7 +14,8 @@ use Rattle.field_lines.specs.Lines.{TextLine, text_line}
 use Rattle.term_forms.specs.Elements.{Element}
 use Rattle.term_forms.specs.Reading.{whole_of}
 use Rattle.root_views.specs.Roots.{BodyRoot, Info, Term, has_text, labelled, stack_root}
-use Rattle.process_stacks.specs.Frames.{cut_text, info_in, infos}
+use Rattle.text_groups.specs.Cut.{cut_text}
+use Rattle.process_stacks.specs.Frames.{info_in, infos}
 use Rattle.process_stacks.specs.Places.{place_line}
 use Rattle.process_stacks.specs.Inner.Hearing.{frame_lines, info_of, line_infos, raw_info, raw_infos, StopsAt, StopsTaking, StopsWithin, Takes, TakesLines}
 use Rattle.process_stacks.specs.Inner.Reading.{HasFrames}

@@ -16,7 +16,8 @@ use Rattle.field_lines.specs.Fields.{find_line, has_key, place_of as field_place
 use Rattle.field_lines.specs.Lines.{TextLine, text_line, text_lines}
 use Rattle.process_table.specs.Records.{record_sections}
 use Rattle.section_rows.specs.Rows.{field_kept, kept, row_of, text_in}
-use Rattle.process_stacks.specs.Frames.{cut_text, frames, infos}
+use Rattle.text_groups.specs.Cut.{cut_text}
+use Rattle.process_stacks.specs.Frames.{frames, infos}
 use Rattle.process_stacks.specs.Places.{IsTold, Place, place_line, place_lines, place_of}
 use Rattle.process_stacks.specs.Rows.{stack_columns, stack_rows, stack_section}
 use Rattle.process_stacks.specs.Inner.Hearing.{raw_info, raw_infos}

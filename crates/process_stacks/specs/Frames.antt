@@ -2,10 +2,7 @@
 use Rattle.std.specs.Prelude.{ℕ, List, map, take, Option, None, Some}
 use Rattle.std.specs.List.{filter_map}
 use Rattle.root_views.specs.Roots.{Content, Info, stack_roots}
-
--- as much of a text as tells a place: at most its first 255 bytes
-abbrev pub cut_text : List ℕ → List ℕ
-cut_text text = take 255 text
+use Rattle.text_groups.specs.Cut.{cut_text}
 
 -- the text of a root, if it is an info
 abbrev pub info_in : Content → Option (List ℕ)

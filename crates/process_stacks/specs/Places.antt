@@ -5,7 +5,8 @@ use Rattle.std.specs.Option.{option_to_list}
 use Rattle.dump_sections.specs.Bodies.{body_in}
 use Rattle.dump_sections.specs.Index.{Contents}
 use Rattle.section_rows.specs.Rows.{Row}
-use Rattle.process_stacks.specs.Frames.{cut_text, frames}
+use Rattle.text_groups.specs.Cut.{cut_text}
+use Rattle.process_stacks.specs.Frames.{frames}
 use Rattle.process_stacks.specs.Rows.{call_in, counter_in, stack_section}
 
 -- a place: the program counter and the current call, where there are such, and the frames

@@ -1,35 +1,16 @@
 // The lines of a place.
-ghost use Rattle.std.specs.Prelude.{◌≡◌, ℕ, List, ◌<◌, ◌++◌, length, take, option_map, All, IfOk, OnOk};
+ghost use Rattle.std.specs.Prelude.{◌≡◌, ℕ, List, ◌<◌, ◌++◌, length, option_map, All, IfOk, OnOk};
 ghost use Rattle.std.specs.Option.{option_copied};
 ghost use Rattle.dump_sections.specs.Index.{Contents};
 ghost use Rattle.section_rows.specs.Rows.{row_at};
-ghost use Rattle.process_stacks.specs.Frames.{cut_text};
+ghost use Rattle.text_groups.specs.Cut.{cut_text};
 ghost use Rattle.process_stacks.specs.Places.{part_line, place_line, IsTold};
 ghost use Rattle.process_stacks.specs.Rows.{stack_rows};
 ghost use Rattle.process_stacks.specs.Inner.Reading.{first_lines};
 
 use crate::procs::StackProcs;
 use std::alloc::{AllocError, Global};
-
-// The most bytes of a text that tell a place.
-const SHOWN: usize = 255;
-
-// The first bytes of a text, at most `most`.
-fn front(text: &[u8], most: usize) -> &[u8]
-    ensures { result.now ≡ take most text.now }
-{
-    match text.get(..most) {
-        Some(front) => front,
-        None => text,
-    }
-}
-
-// The first bytes of a text, as many as tell a place.
-fn cut_text(text: &[u8]) -> &[u8]
-    ensures { result.now ≡ cut_text text.now }
-{
-    front(text, SHOWN)
-}
+use text_groups::cut_text;
 
 /// Appends a line with a word and a text, which is cut.
 pub(crate) fn push_line(lines: &mut Vec<u8>, word: &[u8], text: &[u8]) -> Result<(), AllocError>

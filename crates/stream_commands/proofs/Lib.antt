@@ -1,4 +1,3 @@
 mod HolderLoads
-mod NodeLoads
 mod Redacting
 mod WeightLoads

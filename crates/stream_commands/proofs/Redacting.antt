@@ -19,27 +19,29 @@ use Rattle.dump_questions.specs.Tasks.{large_refusal, question}
 use Rattle.dump_questions.specs.Run.{HasStopped, IsDumpOf, IsLeftOf}
 use Rattle.dump_questions.specs.Reading.{HasOpened, Takes}
 use Rattle.dump_questions.specs.Runs.{Leaves, Runs}
-use Rattle.stream_commands.specs.Stops.{redact_end}
-use Rattle.dump_questions.proofs.Runs.{through, IsThrough}
+use Rattle.stream_commands.specs.Inner.Stops.{redact_end}
+use Rattle.dump_questions.specs.Laws.Runs.{through, IsThrough}
 use Rattle.stream_commands.specs.Rows.{redact_row}
 
--- the refusal of the first heap that is too large, as the command's and as that of the call
+-- the refusal of the first heap that is too large, as that of the command
 abbrev as_refusal : Option Section → Option Refusal
 as_refusal large = option_map large_refusal (option_map large_section large)
 
+-- the refusal of that heap, as the fault of the call
 abbrev as_fault : Option Section → Option RedactFault
 as_fault large = option_map (λ s. faults.SectionTooLarge s.at (body_length s)) large
 
--- where the one is there the other is
+-- where the command is refused, the call is
 is-fault : (large : Option Section) → IsSome (as_refusal large) → IsSome (as_fault large)
 is-fault None some = some
 is-fault (Some s) some = refl
 
--- where the call has none the command has none
+-- where the call isn't refused, the command isn't
 no-refusal : (large : Option Section) → as_fault large ≡ None → as_refusal large ≡ None
 no-refusal None none = refl
 no-refusal (Some s) none = absurd (let no : ⊥ = cc none in no)
 
+-- the call and the command are refused for the same heap
 same-refusal : (large : Option Section) (at len : ℕ) → as_fault large ≡ Some (faults.SectionTooLarge at len) → as_refusal large ≡ Some (SectionTooLarge at len)
 same-refusal None at len is = absurd (let no : ⊥ = cc is in no)
 same-refusal (Some s) at len is = let place : s.at ≡ at = cc is in let size : body_length s ≡ len = cc is in ap (λ n. Some (SectionTooLarge n (body_length s))) place ∙ ap (λ n. Some (SectionTooLarge at n)) size
@@ -71,7 +73,7 @@ module _ (a b c : DeviceState) (file : List ℕ) (limits : Numbers) (index : Con
       by None = refl
       by (Some s) = refl
 
-  -- what is left where the call failed
+  -- what the command has left where the call failed
   left : (bytes : List ℕ) → IsDumpOf a c (question file redact_row) bytes → GainedFront out out' (redacted bytes) → IsLeftOf (question file redact_row) bytes ((question file redact_row).refusal bytes limits) out out'
   left bytes dump front = subst (λ r. IsLeftOf (question file redact_row) bytes r out out') (sym (refused bytes dump)) (by large refl)
     where
@@ -79,7 +81,7 @@ module _ (a b c : DeviceState) (file : List ℕ) (limits : Numbers) (index : Con
       by None e = inr front
       by (Some s) e = unwritten (subst (λ o. IsSome (as_fault o)) (sym e) refl)
 
-  -- where the call says that no heap is too large nothing is refused
+  -- where no heap is too large, the command isn't refused
   accepted : (bytes : List ℕ) → IsDumpOf a c (question file redact_row) bytes → as_fault large ≡ None → (question file redact_row).refusal bytes limits ≡ None
   accepted bytes dump none = refused bytes dump ∙ no-refusal large none
 

@@ -1,3 +1,2 @@
-pub mod Loads
+pub mod Inner
 pub mod Rows
-pub mod Stops

@@ -1,7 +1,7 @@
 -- What each question of this crate means, in one row.
 use Rattle.dump_questions.specs.Meaning.{memory_body, memory_section, no_body, of_bodies, Meaning}
-use Rattle.dump_questions.specs.Heaps.{never, no_address, of_any_size, of_weights}
-use Rattle.std.specs.Prelude.{◌++◌, ◌+◌, [], length, true, List, ℕ}
+use Rattle.dump_questions.specs.Heaps.{heap_question, no_address, of_any_size}
+use Rattle.std.specs.Prelude.{◌++◌, ◌+◌, [], length, true, List, Option, ℕ}
 use Rattle.std.specs.Option.{option_map_or, option_to_list}
 use Rattle.dump_sections.specs.Bodies.{body_in}
 use Rattle.dump_sections.specs.Index.{index_of, sections_in, Contents}
@@ -12,15 +12,16 @@ use Rattle.root_views.specs.declared.kinds.RootKind.TheVariants.{Mail}
 use Rattle.process_table.specs.Processes.{process_table, Process}
 use Rattle.process_table.specs.Records.{record_sections}
 use Rattle.heap_cells.specs.Loading.{heap_bodies}
+use Rattle.binary_holders.specs.declared.rows.Holding.{Holding}
 use Rattle.binary_holders.specs.Usage.{fronts_length, heaps_length, holders_in, pids_of, usage_of, Usage}
 use Rattle.glance_text.specs.Holders.{binaries_report, holders_report}
 use Rattle.process_stacks.specs.Groups.{found_from, Found}
 use Rattle.process_stacks.specs.Rows.{stack_rows, stacks_length}
 use Rattle.section_rows.specs.Rows.{Row}
 use Rattle.stack_text.specs.Stacks.{stacks_report}
-use Rattle.message_shapes.specs.Messages.{mail_shapes}
+use Rattle.message_shapes.specs.Messages.{mail_shapes, ShapeMap}
 use Rattle.shape_text.specs.Shapes.{shapes_report}
-use Rattle.part_weights.specs.Weights.{address_weighing, root_weighing}
+use Rattle.part_weights.specs.Weights.{address_weighing, root_weighing, Weighing}
 use Rattle.weight_text.specs.Weights.{weights_report}
 use Rattle.dump_redact.specs.Redacted.{redacted}
 use Rattle.dump_redact.specs.Refusals.{heap_sections}
@@ -31,17 +32,18 @@ pub record Held (A : Type 0) : Type 0 where
   pub processes : List Process
   pub held : A
 
--- those of the dump with these bytes, of which this tells what processes with these pids hold
+-- the processes of the dump with these bytes, of which this tells what processes with these pids hold
 abbrev pub held_by : {A : Type 0} → (List ℕ → Contents → List (List ℕ) → A) → List ℕ → Held A
 held_by held bytes =
-    let processes = (process_table bytes).processes in record { index = index_of bytes; processes = processes; held = held bytes (index_of bytes) (pids_of processes) }
+    let processes = (process_table bytes).processes in
+    record { index = index_of bytes; processes = processes; held = held bytes (index_of bytes) (pids_of processes) }
 
 -- the use of the binaries of a dump, and the body of its first section on memory
 pub record Used : Type 0 where
   pub usage : Usage
   pub memory : List ℕ
 
--- those of the dump with these bytes and this index, by processes with these pids
+-- the use of the binaries of the dump with these bytes and this index, by processes with these pids
 abbrev pub used_in : List ℕ → Contents → List (List ℕ) → Used
 used_in bytes i pids = record { usage = usage_of bytes i pids; memory = body_in bytes (memory_section (sections_in i)) }
 
@@ -54,41 +56,78 @@ pub record Stacked : Type 0 where
   pub rows : List Row
   pub found : Found
 
--- those of the dump with these bytes
+-- the processes of the dump with these bytes, and their groups
 abbrev pub stacked_in : List ℕ → Stacked
 stacked_in bytes = record { rows = stack_rows bytes; found = found_from bytes (index_of bytes) (stack_rows bytes) }
 
--- one that loads these bodies and then the processes, and looks through their heaps
--- for what they hold: by the index and the pids it takes so many bytes more
-abbrev pub of_holders : {A : Type 0} → (List Section → List Section) → (Contents → List (List ℕ) → ℕ)
-    → (List ℕ → Contents → List (List ℕ) → A) → (Contents → List Process → A → List ℕ) → Meaning
-of_holders {A} before more held show =
-    let bodies : List Section → List Section = λ ss. before ss ++ record_sections ss in
-    record (of_bodies bodies (held_by held) (λ h. show h.index h.processes h.held)) {
-      takes = λ limits bytes. bodies_length (bodies (sections bytes)) + more (index_of bytes) (pids_of (process_table bytes).processes);
+-- what is asked of the processes of a dump and of their heaps
+pub record HolderQuestion : Type 1 where
+  -- the bodies that are read besides, before those of the processes
+  pub also : List Section → List Section
+  -- how many bytes it takes for the heaps of processes with these pids
+  pub more : Contents → List (List ℕ) → ℕ
+  -- what they hold
+  pub What : Type 0
+  -- what they hold in the dump with these bytes and this index, if their pids are these
+  pub held : List ℕ → Contents → List (List ℕ) → What
+  -- how that is reported
+  pub show : Contents → List Process → What → List ℕ
+
+-- a question that loads the other bodies and then the processes, and looks through their heaps for what they hold
+abbrev pub of_holders : HolderQuestion → Meaning
+of_holders q =
+    let bodies : List Section → List Section = λ ss. q.also ss ++ record_sections ss in
+    record (of_bodies bodies (held_by q.held) (λ h. q.show h.index h.processes h.held)) {
+      takes = λ limits bytes. bodies_length (bodies (sections bytes)) + q.more (index_of bytes) (pids_of (process_table bytes).processes);
     }
 
 -- what kinds of messages the process with this pid has in its mailbox, at most this many of them
 abbrev pub shapes_row : List ℕ → ℕ → Meaning
-shapes_row pid most =
-    of_any_size pid (λ ss. option_to_list (root_section Mail pid ss)) never (λ bytes. mail_shapes bytes (index_of bytes) pid) (shapes_report most) (λ limits bytes. bodies_length (heap_bodies pid (sections bytes)))
+shapes_row pid most = of_any_size (record (heap_question pid) {
+  also = λ ss. option_to_list (root_section Mail pid ss);
+  What = ShapeMap;
+  what = λ bytes. mail_shapes bytes (index_of bytes) pid;
+  show = shapes_report most;
+  more = λ limits bytes. bodies_length (heap_bodies pid (sections bytes));
+})
 
 -- what each of the cells alone holds to which the roots of the process with this pid refer, at most this many of them
 abbrev pub weigh_row : List ℕ → ℕ → Meaning
-weigh_row pid most = of_weights pid (root_bodies pid) never (λ bytes. root_weighing bytes (index_of bytes) pid) (weights_report most)
+weigh_row pid most = of_any_size (record (heap_question pid) {
+  also = root_bodies pid;
+  What = Weighing;
+  what = λ bytes. root_weighing bytes (index_of bytes) pid;
+  show = weights_report most;
+})
 
--- the same of the cells to which the elements of the cell at this address refer
+-- what each of the cells alone holds to which the elements of the cell at this address refer, at most this many of them
 abbrev pub weigh_cell_row : List ℕ → ℕ → ℕ → Meaning
-weigh_cell_row pid most addr =
-    of_weights pid no_body (no_address addr) (λ bytes. address_weighing bytes (index_of bytes) pid addr) (λ found. option_map_or (weights_report most) found [])
+weigh_cell_row pid most addr = of_any_size (record (heap_question pid) {
+  refuses = no_address addr;
+  What = Option Weighing;
+  what = λ bytes. address_weighing bytes (index_of bytes) pid addr;
+  show = λ found. option_map_or (weights_report most) found [];
+})
 
 -- which processes hold the binary with this address
 abbrev pub holders_row : ℕ → Meaning
-holders_row addr = of_holders no_body heaps_length (λ bytes i pids. holders_in bytes i pids addr) holders_report
+holders_row addr = of_holders (record {
+  also = no_body;
+  more = heaps_length;
+  What = List Holding;
+  held = λ bytes i pids. holders_in bytes i pids addr;
+  show = holders_report;
+})
 
 -- which processes hold how much of the binaries
 abbrev pub binaries_row : Meaning
-binaries_row = of_holders memory_body (λ i pids. fronts_length i + heaps_length i pids) used_in used_report
+binaries_row = of_holders (record {
+  also = memory_body;
+  more = λ i pids. fronts_length i + heaps_length i pids;
+  What = Used;
+  held = used_in;
+  show = used_report;
+})
 
 -- which processes stand at the same place, with at most this many groups
 abbrev pub stacks_row : ℕ → Meaning

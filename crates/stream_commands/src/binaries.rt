@@ -4,8 +4,9 @@ ghost use Rattle.dump_sections.specs.Bodies.{section_in};
 ghost use Rattle.dump_sections.specs.Index.{sections_in, IsBuiltOver};
 ghost use Rattle.dump_sections.specs.Loading.{large_fault, LoadsBodies};
 ghost use Rattle.process_table.specs.Records.{proc_places};
+ghost use Rattle.dump_questions.specs.Bodies.{ReadsBodies};
 ghost use Rattle.dump_questions.specs.Meaning.{memory_section};
-ghost use Rattle.stream_commands.specs.Loads.{node_sections, seen_use, AreNamed, HoldsNode, ReadsNode};
+ghost use Rattle.stream_commands.specs.Inner.Loads.{node_sections, seen_use, AreNamed, HoldsNode};
 ghost use Rattle.stream_commands.specs.Rows.{binaries_row};
 ghost use Rattle.dump_questions.specs.Runs.{Runs};
 ghost use Rattle.dump_questions.specs.Tasks.{question};
@@ -28,14 +29,14 @@ pub struct Node {
     procs: Procs,
 }
 
-/// These, and what the processes hold.
+/// What was loaded of a node, and what its processes hold.
 #[derive(Drop)]
 pub struct Loaded {
     node: Node,
     found: BinaryUse,
 }
 
-// The first of the sections whose body has more bytes than the limit.
+// Returns the first of the sections of a node whose body has more bytes than the limit.
 fn large_section(
     at: &Opened<'_>,
     place: Option<usize>,
@@ -53,7 +54,7 @@ fn large_section(
     memory.or(procs)
 }
 
-// Reads the bodies, none of which is too large, one after another.
+// Reads the bodies of a node, none of which is too large, one after another.
 fn read_node<D: Dumps>(
     at: &Opened<'_>,
     dumps: &mut D,
@@ -67,7 +68,9 @@ fn read_node<D: Dumps>(
     requires found { found ≡ proc_places (sections_in at.now.index.now) }
     requires small { let sections = node_sections (sections_in at.now.index.now) in
         large_fault at.now.limits.now.section sections ≡ None }
-    ensures { ReadsNode at.now.index.now (D.state dumps.old) (D.state dumps.new) result }
+    ensures reads { let sections = node_sections (sections_in at.now.index.now) in
+        ReadsBodies sections (D.state dumps.old) (D.state dumps.new) result }
+    ensures node { IfOk result (HoldsNode at.now.index.now (D.state dumps.old).now) }
 {
     let memory = read_found(at, dumps, place)?;
     let procs = Procs::read(at.alloc, dumps, at.index, found, at.limits)?;
@@ -119,7 +122,7 @@ impl Report for Binaries {
     }
 }
 
-/// Runs the command, and returns its status.
+/// Runs `binaries`, and returns its status.
 pub fn run_binaries<D: Dumps, K: Sink>(
     dump: &Unopened<'_>,
     dumps: &mut D,

@@ -1,5 +1,5 @@
 // `holders`: which processes hold a binary.
-ghost use Rattle.stream_commands.specs.Loads.{seen_held, AreNamed};
+ghost use Rattle.stream_commands.specs.Inner.Loads.{seen_held, AreNamed};
 ghost use Rattle.stream_commands.specs.Rows.{holders_row};
 ghost use Rattle.dump_questions.specs.Runs.{Runs};
 ghost use Rattle.dump_questions.specs.Tasks.{question};
@@ -44,7 +44,7 @@ impl Report for Holders {
     }
 }
 
-/// Runs the command, and returns its status.
+/// Runs `holders`, and returns its status.
 pub fn run_holders<D: Dumps, K: Sink>(
     dump: &Unopened<'_>,
     addr: u64,

@@ -1,4 +1,13 @@
-//! Questions whose report needs more than bodies and a heap: what is counted while sections pass by.
+//! The commands that go over bodies of any size in pieces: the shapes of messages, the weights of parts
+//! of a heap, who holds binaries, where processes stand, and the redacted dump.
+//!
+//! ```text
+//! let dump = Unopened { alloc, file: "erl_crash.dump", limits: &limits };
+//! let ended = run_stacks(&dump, 10, &mut dumps, &mut out);
+//! ```
+//!
+//! Each command is a file: what it asks, its run, and what it writes. Its row, in
+//! `specs/Rows`, says what it means.
 #![tactic(auto)]
 
 mod binaries;

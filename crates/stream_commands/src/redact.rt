@@ -3,7 +3,7 @@ ghost use Rattle.std.specs.Prelude.{◌≡◌};
 ghost use Rattle.dump_questions.specs.Runs.{Runs};
 ghost use Rattle.dump_questions.specs.Tasks.{question};
 ghost use Rattle.stream_commands.specs.Rows.{redact_row};
-ghost use Rattle.stream_commands.specs.Stops.{redact_end};
+ghost use Rattle.stream_commands.specs.Inner.Stops.{redact_end};
 
 use dump_io::{Dumps, Sink};
 use dump_questions::status::DONE;
@@ -11,7 +11,7 @@ use dump_questions::{Stop, Unopened, open_dump};
 use dump_redact::{RedactFault, redact};
 use report_text::Refusal;
 
-// How the run ends.
+// Returns how the run ends.
 fn ended(written: Result<(), RedactFault>) -> Result<u8, Stop>
     ensures { result ≡ redact_end written }
 {
@@ -26,7 +26,7 @@ fn ended(written: Result<(), RedactFault>) -> Result<u8, Stop>
     }
 }
 
-/// Runs the command, and returns its status.
+/// Runs `redact`, and returns its status.
 pub fn run_redact<D: Dumps, K: Sink>(
     dump: &Unopened<'_>,
     dumps: &mut D,

@@ -34,7 +34,7 @@ impl Report for Shapes<'_> {
     }
 }
 
-/// Runs the command, and returns its status.
+/// Runs `shapes`, and returns its status.
 pub fn run_shapes<D: Dumps, K: Sink>(
     dump: &Unopened<'_>,
     pid: &[u8],

@@ -16,7 +16,7 @@ pub(crate) struct StackGroups {
     pub count: u32,
 }
 
-/// The processes, and their groups.
+/// The processes, and their groups by the places at which they stand.
 #[derive(Drop)]
 pub struct Loaded {
     procs: StackProcs,
@@ -44,7 +44,7 @@ impl Report for StackGroups {
     }
 }
 
-/// Runs the command, and returns its status.
+/// Runs `stacks`, and returns its status.
 pub fn run_stacks<D: Dumps, K: Sink>(
     dump: &Unopened<'_>,
     count: u32,

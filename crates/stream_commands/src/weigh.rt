@@ -77,7 +77,7 @@ impl Report for WeighCell<'_> {
     }
 }
 
-/// Runs the command, and returns its status.
+/// Runs `weigh` of a process, and returns its status.
 pub fn run_weigh<D: Dumps, K: Sink>(
     dump: &Unopened<'_>,
     pid: &[u8],
@@ -91,7 +91,7 @@ pub fn run_weigh<D: Dumps, K: Sink>(
     run_report(dump, &Weigh { pid, count }, dumps, out)
 }
 
-/// Runs the command, and returns its status.
+/// Runs `weigh` of the cell at an address, and returns its status.
 pub fn run_weigh_cell<D: Dumps, K: Sink>(
     dump: &Unopened<'_>,
     pid: &[u8],

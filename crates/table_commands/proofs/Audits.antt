@@ -14,12 +14,12 @@ use Rattle.audit_bodies.specs.declared.loading.AuditBodies.{AuditBodies}
 use Rattle.audit_bodies.specs.Bodies.{AreBodiesOf}
 use Rattle.audit_bodies.specs.Mailboxes.{audited_sections, mail_in, mailbox_places}
 use Rattle.table_commands.specs.Rows.{of_audit}
-use Rattle.table_commands.specs.Loads.{loaded_audit}
+use Rattle.table_commands.specs.Inner.Loads.{loaded_audit}
 use Rattle.dump_questions.specs.Reading.{ReadsFor}
 use Rattle.dump_questions.specs.Stops.{or_stop}
-use Rattle.dump_questions.proofs.Reading.{ReadsFor-bodies}
+use Rattle.dump_questions.specs.Laws.Reading.{ReadsFor-bodies}
 
--- over the index of the bytes what is audited is what they say
+-- over the index of a dump an audit is of what the dump says
 audit-told : (limit : ℕ) (full : Bool) (bytes : List ℕ) (index : Contents) (read : AuditBodies) → index ≡ index_of bytes → AreBodiesOf full index bytes read
     → loaded_audit limit index read ≡ audit_in limit full bytes
 audit-told limit full bytes index read is of =

@@ -9,7 +9,7 @@ use Rattle.dump_sections.specs.declared.version.Version.{Version}
 use Rattle.dump_sections.specs.declared.version.Version.TheVariants.{V03, V04, V05}
 use Rattle.report_text.specs.Reports.{version_text}
 use Rattle.table_commands.specs.Rows.{overview_of}
-use Rattle.table_commands.specs.Loads.{seen_overview}
+use Rattle.table_commands.specs.Inner.Loads.{seen_overview}
 use Rattle.dump_questions.specs.declared.subjects.Body.{Body}
 
 chosen : (a b c : Bool) (version : Version) → (if a then Some V03 else (if b then Some V04 else (if c then Some V05 else None))) ≡ Some version

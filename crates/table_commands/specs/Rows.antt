@@ -3,10 +3,10 @@ use Rattle.dump_questions.specs.Tasks.{alone, Task}
 use Rattle.dump_write.specs.Made.{made}
 use Rattle.dump_trial.specs.Tallies.{trial_report}
 use Rattle.dump_trial.specs.Trial.{trial_of}
-use Rattle.dump_questions.specs.Meaning.{first_body, first_section, memory_section, no_body, of_bodies, of_section, of_subject, process_section, Meaning, Part}
+use Rattle.dump_questions.specs.Meaning.{first_body, first_section, memory_body, memory_section, no_body, process_section, Part}
+use Rattle.dump_questions.specs.Meaning.{of_bodies, of_section, of_subject, Meaning}
 use Rattle.table_commands.specs.Triage.{triage_over, Told}
-use Rattle.std.specs.Prelude.{◌++◌, ◌+◌, ◌∷◌, Bool, List, Some, ℕ}
-use Rattle.std.specs.Option.{option_to_list}
+use Rattle.std.specs.Prelude.{◌++◌, Bool, List, Some, ℕ}
 use Rattle.dump_sections.specs.Bodies.{body_in, body_of}
 use Rattle.dump_sections.specs.Index.{index_of, Contents}
 use Rattle.dump_sections.specs.Sections.{sections, Section}
@@ -30,8 +30,7 @@ use Rattle.json_report.specs.Trees.{audit_tree, json_text}
 
 -- the first section, the first one on memory, those of the processes and those of the ETS tables
 abbrev pub triage_sections : List Section → List Section
-triage_sections sections =
-    ((first_section sections ∷ option_to_list (memory_section sections)) ++ record_sections sections) ++ listed Ets sections
+triage_sections sections = ((first_body sections ++ memory_body sections) ++ record_sections sections) ++ listed Ets sections
 
 -- the report on the fields of a section
 abbrev pub fields_of : Part → List ℕ
@@ -43,7 +42,7 @@ pub record Overview : Type 0 where
   pub index : Contents
   pub first : List ℕ
 
--- that of the dump with these bytes
+-- what `info` tells of the dump with these bytes
 abbrev pub overview_of : List ℕ → Overview
 overview_of bytes = record { version = first_id bytes; index = index_of bytes; first = body_of bytes (first_section (sections bytes)) }
 
@@ -51,7 +50,7 @@ overview_of bytes = record { version = first_id bytes; index = index_of bytes; f
 abbrev pub info_of : Overview → List ℕ
 info_of o = info_report o.version o.index.headers o.index.size (tag_counts (tags_in o.index)) o.first
 
--- what the bodies of a triage hold
+-- what `triage` tells of the dump with these bytes
 abbrev pub told_in : List ℕ → Told
 told_in bytes = record {
   index = index_of bytes;
@@ -61,19 +60,19 @@ told_in bytes = record {
   tables = table_of Ets bytes;
 }
 
--- an audit, which is shown in this way
+-- an audit with this limit on message queues, in full or not, that is shown in this way
 abbrev pub of_audit : ℕ → Bool → (Audit → List ℕ) → Meaning
 of_audit limit full show = record (of_bodies (audited_sections full) (audit_in limit full) show) { found = Some findings }
 
--- the sections of the dump and its state
+-- the sections of a dump and its state
 abbrev pub index_row : Meaning
 index_row = of_bodies no_body index_of (λ i. index_report i.headers i.size)
 
--- its version, size, counts, slogan, tags and state
+-- the version, size, counts, slogan, tags and state of a dump
 abbrev pub info_row : Meaning
 info_row = of_bodies first_body overview_of info_of
 
--- the process table
+-- the process table of a dump
 abbrev pub procs_row : Meaning
 procs_row = of_bodies record_sections process_table procs_report
 
@@ -93,7 +92,7 @@ field_row key = of_bodies record_sections (field_table key) values_report
 abbrev pub table_row : TableKind → Meaning
 table_row kind = of_bodies (listed kind) (table_of kind) rows_report
 
--- what to read first, with at most this many rows of each table
+-- what to read first of a dump, with at most this many rows of each table
 abbrev pub triage_row : ℕ → Meaning
 triage_row most = of_bodies triage_sections told_in (triage_over most)
 
@@ -101,11 +100,11 @@ triage_row most = of_bodies triage_sections told_in (triage_over most)
 abbrev pub links_row : Meaning
 links_row = of_bodies record_sections process_table (λ table. links_report table.processes)
 
--- an audit with this limit on message queues, in full or not
+-- the lines of an audit with this limit on message queues, in full or not
 abbrev pub audit_row : ℕ → Bool → Meaning
 audit_row limit full = of_audit limit full audit_report
 
--- the same as one JSON text
+-- such an audit as one JSON text
 abbrev pub audit_json_row : ℕ → Bool → Meaning
 audit_json_row limit full = of_audit limit full (λ audit. json_text (audit_tree audit))
 
@@ -115,6 +114,6 @@ audit_json_row limit full = of_audit limit full (λ audit. json_text (audit_tree
 abbrev pub make_task : ℕ → ℕ → Task
 make_task seed count = alone (made seed count)
 
--- a summary of the reports on such a dump
+-- a summary of the reports on a made dump
 abbrev pub trial_task : ℕ → ℕ → Task
 trial_task seed count = alone (trial_report (trial_of seed count))

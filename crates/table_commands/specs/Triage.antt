@@ -6,7 +6,7 @@ use Rattle.process_table.specs.Processes.{ProcessTable}
 use Rattle.dump_triage.specs.Triage.{triage_of}
 use Rattle.glance_text.specs.Triage.{triage_report}
 
--- what its report is on: the index, the body of the first section and
+-- what the report of `triage` is on: the index, the body of the first section and
 -- that of the first one on memory, the processes and the ETS tables
 pub record Told : Type 0 where
   pub index : Contents
@@ -15,7 +15,8 @@ pub record Told : Type 0 where
   pub procs : ProcessTable
   pub tables : Table
 
--- the report on these, with at most this many rows by each measure
+-- the report of `triage`, with at most this many rows by each measure
 abbrev pub triage_over : ℕ → Told → List ℕ
 triage_over most told =
-    triage_report told.index told.first told.memory told.procs told.tables.rows (triage_of told.index told.procs.processes told.tables.rows most)
+    let found = triage_of told.index told.procs.processes told.tables.rows most in
+    triage_report told.index told.first told.memory told.procs told.tables.rows found

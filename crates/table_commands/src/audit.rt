@@ -5,7 +5,7 @@ ghost use Rattle.dump_audit.specs.Findings.{findings};
 ghost use Rattle.dump_audit.specs.Fitting.{Fits};
 ghost use Rattle.link_graph.specs.Graph.{graph_of};
 ghost use Rattle.dump_questions.specs.Tasks.{status_of};
-ghost use Rattle.table_commands.specs.Loads.{loaded_audit};
+ghost use Rattle.table_commands.specs.Inner.Loads.{loaded_audit};
 ghost use Rattle.table_commands.specs.Rows.{audit_row};
 ghost use Rattle.dump_questions.specs.Runs.{Runs};
 ghost use Rattle.dump_questions.specs.Tasks.{question};
@@ -70,7 +70,7 @@ impl Report for Audit {
     }
 }
 
-/// Runs the command, and returns its status.
+/// Runs `audit`, and returns its status.
 pub fn run_audit<D: Dumps, K: Sink>(
     dump: &Unopened<'_>,
     limit: u64,

@@ -1,8 +1,8 @@
 // `audit-json`: the findings of an audit as one JSON text.
 ghost use Rattle.std.specs.Prelude.{◌≡◌};
-ghost use Rattle.table_commands.specs.Stops.{json_end};
+ghost use Rattle.table_commands.specs.Inner.Stops.{json_end};
 ghost use Rattle.audit_bodies.specs.Bodies.{IsAuditable};
-ghost use Rattle.table_commands.specs.Loads.{loaded_audit};
+ghost use Rattle.table_commands.specs.Inner.Loads.{loaded_audit};
 ghost use Rattle.table_commands.specs.Rows.{audit_json_row};
 ghost use Rattle.dump_questions.specs.Runs.{Runs};
 ghost use Rattle.dump_questions.specs.Tasks.{question};
@@ -20,7 +20,7 @@ pub(crate) struct AuditJson {
     pub full: bool,
 }
 
-// What was written, or the stop of the command.
+// Returns how the command goes on after its text was written or not.
 fn ended(written: Result<(), JsonFault>) -> Result<(), Stop>
     ensures { result ≡ json_end written }
 {
@@ -59,7 +59,7 @@ impl Report for AuditJson {
     }
 }
 
-/// Runs the command, and returns its status.
+/// Runs `audit-json`, and returns its status.
 pub fn run_audit_json<D: Dumps, K: Sink>(
     dump: &Unopened<'_>,
     limit: u64,

@@ -31,7 +31,7 @@ impl Report for Field<'_> {
     }
 }
 
-/// Runs the command, and returns its status.
+/// Runs `field`, and returns its status.
 pub fn run_field<D: Dumps, K: Sink>(
     dump: &Unopened<'_>,
     key: &[u8],

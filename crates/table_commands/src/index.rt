@@ -28,7 +28,7 @@ impl Report for Index {
     }
 }
 
-/// Runs the command, and returns its status.
+/// Runs `index`, and returns its status.
 pub fn run_index<D: Dumps, K: Sink>(
     dump: &Unopened<'_>,
     dumps: &mut D,

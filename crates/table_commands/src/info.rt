@@ -1,5 +1,5 @@
 // `info`: version, size, counts, slogan, tags and state of a dump.
-ghost use Rattle.table_commands.specs.Loads.{seen_overview};
+ghost use Rattle.table_commands.specs.Inner.Loads.{seen_overview};
 ghost use Rattle.table_commands.specs.Rows.{info_row};
 ghost use Rattle.dump_questions.specs.Runs.{Runs};
 ghost use Rattle.dump_questions.specs.Tasks.{question};
@@ -31,7 +31,7 @@ impl Report for Info {
     }
 }
 
-/// Runs the command, and returns its status.
+/// Runs `info`, and returns its status.
 pub fn run_info<D: Dumps, K: Sink>(
     dump: &Unopened<'_>,
     dumps: &mut D,

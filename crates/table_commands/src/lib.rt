@@ -1,4 +1,13 @@
-//! Questions to a dump that load bodies alone, and the commands without a file.
+//! The commands that read whole bodies and no heap: the index, the fields of sections, tables,
+//! links, audits and what to read first; and those that make a dump, which open no file.
+//!
+//! ```text
+//! let dump = Unopened { alloc, file: "erl_crash.dump", limits: &limits };
+//! let ended = run_field(&dump, b"State", &mut dumps, &mut out);
+//! ```
+//!
+//! Each command is a file: what it asks, its run, and what it writes. Its row, in
+//! `specs/Rows`, says what it means.
 #![tactic(auto)]
 
 mod audit;

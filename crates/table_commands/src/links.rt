@@ -31,7 +31,7 @@ impl Report for Links {
     }
 }
 
-/// Runs the command, and returns its status.
+/// Runs `links`, and returns its status.
 pub fn run_links<D: Dumps, K: Sink>(
     dump: &Unopened<'_>,
     dumps: &mut D,

@@ -9,6 +9,7 @@ use dump_questions::status::DONE;
 use dump_write::make;
 use std::alloc::Global;
 
+/// Runs `make`, and returns its status.
 pub fn run_make<K: Sink>(alloc: Global, seed: u64, count: u32, out: &mut K) -> Result<u8, Stop>
     requires some { 1 ≤ count }
     requires few { count ≤ 200000 }

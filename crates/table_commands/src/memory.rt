@@ -32,7 +32,7 @@ impl Report for Memory {
     }
 }
 
-/// Runs the command, and returns its status.
+/// Runs `memory`, and returns its status.
 pub fn run_memory<D: Dumps, K: Sink>(
     dump: &Unopened<'_>,
     dumps: &mut D,

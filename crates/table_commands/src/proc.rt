@@ -36,7 +36,7 @@ impl Report for Proc<'_> {
     }
 }
 
-/// Runs the command, and returns its status.
+/// Runs `proc`, and returns its status.
 pub fn run_proc<D: Dumps, K: Sink>(
     dump: &Unopened<'_>,
     pid: &[u8],

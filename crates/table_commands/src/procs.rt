@@ -29,7 +29,7 @@ impl Report for ProcessTable {
     }
 }
 
-/// Runs the command, and returns its status.
+/// Runs `procs`, and returns its status.
 pub fn run_procs<D: Dumps, K: Sink>(
     dump: &Unopened<'_>,
     dumps: &mut D,

@@ -31,7 +31,7 @@ impl Report for Table {
     }
 }
 
-/// Runs the command, and returns its status.
+/// Runs `ets`, `ports`, `nodes` or `mods`, and returns the status.
 pub fn run_table<D: Dumps, K: Sink>(
     dump: &Unopened<'_>,
     kind: TableKind,

@@ -3,7 +3,8 @@ ghost use Rattle.std.specs.Prelude.{◌≡◌, ◌≤◌, length, None, IfOk};
 ghost use Rattle.dump_sections.specs.Index.{sections_in, IsBuiltOver};
 ghost use Rattle.dump_sections.specs.Loading.{large_fault, LoadsBodies};
 ghost use Rattle.table_commands.specs.Rows.{triage_row, triage_sections};
-ghost use Rattle.table_commands.specs.Loads.{seen_triage, AreFound, Fits, HoldsBodies, ReadsBodies};
+ghost use Rattle.table_commands.specs.Inner.Loads.{seen_triage, AreFound, Fits, HoldsBodies};
+ghost use Rattle.dump_questions.specs.Bodies.{ReadsBodies};
 ghost use Rattle.dump_questions.specs.Runs.{Runs};
 ghost use Rattle.dump_questions.specs.Tasks.{question};
 
@@ -22,7 +23,7 @@ pub(crate) struct Triage {
     pub count: u32,
 }
 
-/// The sections whose bodies are loaded after the first one.
+/// The places of the sections that a triage loads after the first one.
 #[derive(Drop)]
 pub struct Places {
     memory: Option<usize>,
@@ -39,6 +40,7 @@ pub struct Loaded {
     tables: Rows,
 }
 
+// Finds the sections that a triage loads after the first one.
 fn find_places(at: &Opened<'_>) -> Result<Places, AllocError>
     ensures { IfOk result (AreFound at.now.index.now) }
 {
@@ -52,7 +54,7 @@ fn find_places(at: &Opened<'_>) -> Result<Places, AllocError>
     })
 }
 
-// The first of the sections whose body has more bytes than the limit.
+// Returns the first of the sections of a triage whose body has more bytes than the limit.
 fn large_section(at: &Opened<'_>, places: &Places) -> Option<LargeSection>
     requires some { 1 ≤ length at.now.index.now.headers }
     requires places { AreFound at.now.index.now places.now }
@@ -66,7 +68,7 @@ fn large_section(at: &Opened<'_>, places: &Places) -> Option<LargeSection>
     first.or(memory).or(procs).or(tables)
 }
 
-// Reads the bodies, none of which is too large, one after another.
+// Reads the bodies of a triage, none of which is too large, one after another.
 fn read_bodies<D: Dumps>(
     at: &Opened<'_>,
     dumps: &mut D,
@@ -77,7 +79,10 @@ fn read_bodies<D: Dumps>(
     requires places { AreFound at.now.index.now places }
     requires small { let sections = triage_sections (sections_in at.now.index.now) in
         large_fault at.now.limits.now.section sections ≡ None }
-    ensures { ReadsBodies at.now.index.now (D.state dumps.old) (D.state dumps.new) result }
+    ensures reads { let sections = triage_sections (sections_in at.now.index.now) in
+        ReadsBodies sections (D.state dumps.old) (D.state dumps.new) result }
+    ensures bodies { IfOk result (HoldsBodies at.now.index.now (D.state dumps.old).now) }
+    ensures fits { IfOk result (Fits at.now.index.now) }
 {
     let first = read_found(at, dumps, Some(0))?;
     let memory = read_found(at, dumps, places.memory)?;
@@ -91,7 +96,7 @@ fn read_bodies<D: Dumps>(
     })
 }
 
-// Loads the bodies: all are judged before one is read.
+// Loads the bodies of a triage: all are judged before one is read.
 fn load_bodies<D: Dumps>(
     at: &Opened<'_>,
     dumps: &mut D,
@@ -146,7 +151,7 @@ impl Report for Triage {
     }
 }
 
-/// Runs the command, and returns its status.
+/// Runs `triage`, and returns its status.
 pub fn run_triage<D: Dumps, K: Sink>(
     dump: &Unopened<'_>,
     count: u32,

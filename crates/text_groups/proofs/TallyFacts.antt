@@ -77,7 +77,7 @@ length-members text (s ∷ items) =
     [ true ↦ omega (arith, length-members text items) | false ↦ omega (arith, length-members text items) ]
 
 -- an item has its text
-members-some : (items : List Item) (i : ℕ) (s : Item) → slice_get items i ≡ Some s → 0 < length (members s.text items)
+pub members-some : (items : List Item) (i : ℕ) (s : Item) → slice_get items i ≡ Some s → 0 < length (members s.text items)
 members-some items i s at =
     let whole : members s.text items ≡ members s.text (take (i + 1) items) ++ members s.text (drop (i + 1) items) =
     ap (members s.text) (sym (take-append-drop (i + 1) items)) ∙ filter-append (has_text s.text) (take (i + 1) items) (drop (i + 1) items) in

@@ -1,2 +1,3 @@
 -- What only private functions cite: how items are counted.
 pub mod Counting
+pub mod Numbers

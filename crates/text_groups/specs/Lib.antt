@@ -1,2 +1,4 @@
+pub mod Cut
 pub mod Groups
 pub mod Inner
+pub mod Numbers

@@ -86,7 +86,10 @@ fn take_group<'a, G: Grouped>(
 }
 
 // Appends a group, if there is one.
-fn push_group(groups: &mut Vec<TextGroup>, group: Option<TextGroup>) -> Result<(), AllocError>
+pub(crate) fn push_group(
+    groups: &mut Vec<TextGroup>,
+    group: Option<TextGroup>,
+) -> Result<(), AllocError>
     ensures { OnOk result (groups.new.items ≡ groups.old.items ++ option_to_list group) }
 {
     if let Some(group) = group {

@@ -13,11 +13,11 @@ abbrev pub form_front : Option HeapForm → List Element
 form_front (Some (Tuple elements)) = take 8 elements
 form_front form = []
 
--- those of the cell with a number
+-- the first elements of the cell with a number, if it is a tuple
 abbrev pub front_of : List Cell → ℕ → List Element
 front_of cells number = form_front (form_at cells number)
 
--- those of each of these cells of the heap of the process with this pid
+-- the first elements of each of these cells of the heap of the process with this pid
 abbrev pub fronts_for : List ℕ → Contents → List ℕ → List ℕ → List (List Element)
 fronts_for dump index pid numbers =
     let sections = sections_in index in

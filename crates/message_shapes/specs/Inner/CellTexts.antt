@@ -1,5 +1,5 @@
 -- The shapes of cells, given the skeleton of the heap and the first elements of the tuples.
-use Rattle.std.specs.Prelude.{ℕ, ◌==◌, ◌++◌, List, [], length, map, codes, nat_lt, Option, Some, if◌then◌else◌}
+use Rattle.std.specs.Prelude.{◌≡◌, ℕ, ◌==◌, ◌++◌, List, [], length, map, codes, nat_lt, Option, Some, if◌then◌else◌}
 use Rattle.std.specs.Option.{option_map_or}
 use Rattle.cell_graphs.specs.Graphs.{places_at}
 use Rattle.cell_parts.specs.Kinds.{cell_kind}
@@ -50,6 +50,10 @@ size_of s cell = length (places_at s.leads cell)
 abbrev pub inner_text : SkeletonMap → TupleMap → ℕ → List ℕ
 inner_text s tuples cell =
     if is_tuple s cell then tuple_with (size_of s cell) (tag_texts (front_at tuples cell)) else kind_text (cell_kind s.kinds cell)
+
+-- these are the shapes that the tuples have inside messages
+abbrev pub AreInner : SkeletonMap → TupleMap → List (List ℕ) → Type 0
+AreInner s tuples texts = texts ≡ map (inner_text s tuples) tuples.cells
 
 -- the shape of an element of a message
 abbrev pub element_text : SkeletonMap → TupleMap → Element → List ℕ

@@ -16,7 +16,7 @@ pub record Tells (old new : MailSink) (roots : List BodyRoot) : Type 0 where
   pub skeleton : new.skeleton ≡ old.skeleton
   pub heard : new.heard ≡ old.heard ++ roots_told old.skeleton.now.addresses roots
 
--- so did those among the roots in a section of what is open
+-- the messages among the roots in a section of what is open were told behind those before
 pub record TellsSection (now : Now) (found : Option Section) (old new : MailSink) : Type 0 where
   pub skeleton : new.skeleton ≡ old.skeleton
   pub heard : IfTold now (λ dump.

@@ -1,9 +1,9 @@
 -- What is told of messages as they are heard: where each stands, and to which cell it refers or what its shape is.
 use Rattle.std.specs.Prelude.{ℕ, ◌==◌, ◌<◌, List, [], ◌∷◌, map, filter, flat_map, codes, length, position, slice_index_or, All, Option}
 use Rattle.std.specs.Option.{option_map_or}
-use Rattle.dump_io.specs.Atoms.{atom_text}
 use Rattle.term_forms.specs.Elements.{Element, Nil, Small, Atom, Pid, Port, Ref}
 use Rattle.root_views.specs.Roots.{BodyRoot, Content, Term, Info, Dist, Unread, is_message}
+use Rattle.message_shapes.specs.Shapes.{atom_shape}
 use Rattle.message_shapes.specs.declared.heard.Found.{Found}
 use Rattle.message_shapes.specs.declared.heard.Source.{Source}
 use Rattle.message_shapes.specs.declared.heard.Source.TheVariants as source
@@ -31,7 +31,7 @@ abbrev pub origin_of : List (List ℕ) → Subject → Origin
 origin_of texts (subject.Cell cell) = OfCell cell
 origin_of texts (subject.Text number) = OfText (slice_index_or texts number [])
 
--- one that is kept
+-- what is told of a message that is kept
 abbrev pub told_of : List (List ℕ) → Found → Told
 told_of texts found = record { at = found.at; source = origin_of texts found.subject }
 
@@ -63,7 +63,7 @@ shown_source (source.Text text) = OfText text.now
 abbrev pub plain_shape : Element → List ℕ
 plain_shape Nil = codes "[]"
 plain_shape (Small integer) = codes "integer()"
-plain_shape (Atom name) = atom_text name
+plain_shape (Atom name) = atom_shape name
 plain_shape (Pid pid) = codes "pid()"
 plain_shape (Port port) = codes "port()"
 plain_shape (Ref address) = codes "missing()"
@@ -88,7 +88,7 @@ content_origin addresses Unread = OfText (codes "?")
 abbrev pub root_told : List ℕ → BodyRoot → Told
 root_told addresses root = record { at = root.at; source = content_origin addresses root.content }
 
--- those of several roots
+-- what is told of several roots
 abbrev pub roots_told : List ℕ → List BodyRoot → List Told
 roots_told addresses roots = map (root_told addresses) (filter is_message roots)
 
@@ -99,7 +99,7 @@ abbrev pub origin_cells : Origin → List ℕ
 origin_cells (OfCell cell) = cell ∷ []
 origin_cells (OfText text) = []
 
--- those of several messages
+-- the cells of several messages
 abbrev pub told_cells : List Told → List ℕ
 told_cells all = flat_map (λ told. origin_cells told.source) all
 

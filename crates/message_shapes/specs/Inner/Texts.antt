@@ -1,5 +1,5 @@
 -- Texts in one pool.
-use Rattle.std.specs.Prelude.{◌≡◌, ℕ, ◌≤◌, List, ◌++◌, All, length, map, slice_range}
+use Rattle.std.specs.Prelude.{ℕ, ◌≤◌, List, All, length, map, slice_range}
 use Rattle.message_shapes.specs.declared.texts.Span.{Span}
 
 -- the text that stands there
@@ -18,8 +18,3 @@ pub record IsWithin (size : ℕ) (span : Span) : Type 0 where
 -- each of these places is
 abbrev pub AreWithin : List ℕ → List Span → Type 0
 AreWithin pool spans = All (IsWithin (length pool)) spans
-
--- texts were appended to others
-pub record IsGrown (old new : List (List ℕ)) : Type 0 where
-  pub more : List (List ℕ)
-  pub are : new ≡ old ++ more

@@ -32,6 +32,6 @@ lead_tuple s lead = option_map_or (tuple_or_none s) lead []
 abbrev pub needed_at : SkeletonMap → ℕ → List ℕ
 needed_at s cell = if is_tuple s cell then cell ∷ flat_map (lead_tuple s) (take 8 (places_at s.leads cell)) else []
 
--- those of several cells
+-- the tuples that several cells need
 abbrev pub needed : SkeletonMap → List ℕ → List ℕ
 needed s cells = flat_map (needed_at s) cells

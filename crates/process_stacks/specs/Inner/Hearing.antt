@@ -3,7 +3,7 @@ use Rattle.std.specs.Prelude.{◌≡◌, ℕ, ◌+◌, ◌<◌, ◌&&◌, nat_eq
 use Rattle.std.specs.List.{filter_map, flat_map, starts_with}
 use Rattle.dump_io.specs.Colons.{after_colon, has_colon}
 use Rattle.dump_io.specs.Lines.{Line, text_of}
-use Rattle.process_stacks.specs.Frames.{cut_text}
+use Rattle.text_groups.specs.Cut.{cut_text}
 use Rattle.process_stacks.specs.Places.{place_line}
 use Rattle.process_stacks.specs.declared.frame_sink.FrameSink.{FrameSink}
 use Rattle.process_stacks.specs.declared.frame_sink.Stop.{Stop}

@@ -4,7 +4,8 @@ use Rattle.std.specs.List.{flat_map}
 use Rattle.dump_sections.specs.Index.{Contents}
 use Rattle.first_sections.specs.Firsts.{Firsts}
 use Rattle.section_rows.specs.Rows.{Row}
-use Rattle.process_stacks.specs.Frames.{cut_text, frames}
+use Rattle.text_groups.specs.Cut.{cut_text}
+use Rattle.process_stacks.specs.Frames.{frames}
 use Rattle.process_stacks.specs.Places.{part_line, place_line}
 use Rattle.process_stacks.specs.Rows.{call_in, counter_in}
 

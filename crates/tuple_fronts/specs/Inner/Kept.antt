@@ -42,7 +42,7 @@ pub record IsFrontOf (known : Option (List Element)) (front : List Element) : Ty
   pub few : length front ≤ 8
   pub are : IfSome known (λ elements. front ≡ take 8 elements)
 
--- of several, in order
+-- the fronts of several cells, in order
 abbrev pub AreFrontsOf : List (Option (List Element)) → List (List Element) → Type 0
 AreFrontsOf [] [] = Unit {0}
 AreFrontsOf (known ∷ more) (front ∷ fronts) = IsFrontOf known front × AreFrontsOf more fronts

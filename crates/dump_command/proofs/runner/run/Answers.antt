@@ -1,5 +1,5 @@
 use Rattle.std.proofs.Common.{sym}
-use Rattle.dump_questions.proofs.Runs.{IsProper-ended, IsRunOf-ended, IsRunOf-complete}
+use Rattle.dump_questions.specs.Laws.Runs.{IsProper-ended, IsRunOf-ended, IsRunOf-complete}
 use Rattle.dump_command.proofs.Asked.{IsRunOf-same}
 use Rattle.dump_command.specs.Report.{task}
 use Rattle.dump_command.proofs.runner.run.Goals as goal

@@ -1,4 +1,4 @@
-use Rattle.dump_questions.proofs.Runs.{EndsTold-put}
+use Rattle.dump_questions.specs.Laws.Runs.{EndsTold-put}
 use Rattle.dump_questions.proofs.ending.put_usage.Goals as goal
 
 pub returns : goal.returns

@@ -1,6 +1,6 @@
 use Rattle.std.proofs.Common.{refl}
 use Rattle.std.proofs.lemmas.Result.{err_from_is_err_and}
-use Rattle.dump_questions.proofs.Runs.{Runs-halted, Runs-told, Runs-unopened}
+use Rattle.dump_questions.specs.Laws.Runs.{Runs-halted, Runs-told, Runs-unopened}
 use Rattle.dump_questions.proofs.report.run_report.Goals as goal
 
 pub read-requires-clause-asked : goal.read-requires-clause-asked

@@ -1,6 +1,6 @@
 use Rattle.std.proofs.Common.{sym, ◌∙◌, rules}
 use Rattle.std.proofs.lemmas.Result.{err_from_is_err_and}
-use Rattle.dump_questions.proofs.HeapLoads.{HoldsHeap-loaded, IsClear-judged, IsHeapless-heap, IsHeapless-judged, IsHeapless-large, IsSome-fault}
+use Rattle.dump_questions.specs.Laws.Heaps.{HoldsHeap-loaded, IsClear-judged, IsHeapless-heap, IsHeapless-judged, IsHeapless-large, IsSome-fault}
 use Rattle.dump_questions.proofs.subjects.load_behind.Goals as goal
 
 pub returns-in_err-find_process : goal.returns-in_err-find_process

@@ -3,7 +3,7 @@ use Rattle.dump_io.specs.Laws.Reads.{ReadsAtMost-none}
 use Rattle.term_forms.specs.Elements.{Element}
 use Rattle.term_forms.specs.Seen.{element}
 use Rattle.term_text.specs.Reach.{root_elements}
-use Rattle.heap_commands.specs.Loads.{GivesPart}
+use Rattle.heap_commands.specs.Inner.Loads.{GivesPart}
 use Rattle.dump_questions.specs.declared.stop.Stop.TheVariants.{NoMemory}
 use Rattle.heap_commands.proofs.PartLoads.{stopped, Gives-stopped}
 use Rattle.heap_commands.proofs.peek.load_for_roots.Goals as goal

@@ -1,7 +1,7 @@
 use Rattle.std.proofs.Common.{arith}
 use Rattle.dump_io.specs.Laws.Reads.{ReadsAtMost-then, ReadsAtMost-within}
 use Rattle.heap_commands.proofs.PartLoads.{IfErr-halted}
-use Rattle.dump_questions.proofs.Reading.{StopsFor-reading}
+use Rattle.dump_questions.specs.Laws.Reading.{StopsFor-reading}
 use Rattle.heap_commands.proofs.peek.load_over.Goals as goal
 
 pub returns-in_err-heap-clause-reads : goal.returns-in_err-heap-clause-reads

@@ -1,9 +1,9 @@
 use Rattle.std.proofs.Common.{arith, map, subst, sym}
 use Rattle.heap_lines.specs.Wholes.{cells_in, is_known, HasLines}
 use Rattle.term_forms.specs.Seen.{element}
-use Rattle.heap_commands.specs.Loads.{GivesPart}
+use Rattle.heap_commands.specs.Inner.Loads.{GivesPart}
 use Rattle.heap_commands.proofs.PartLoads.{stopped, Gives-lacking, Gives-stopped, Gives-terms}
-use Rattle.dump_questions.proofs.Reading.{StopsFor-reading}
+use Rattle.dump_questions.specs.Laws.Reading.{StopsFor-reading}
 use Rattle.heap_commands.proofs.peek.load_terms.Goals as goal
 
 pub returns-in_err-lines-clause-gives : goal.returns-in_err-lines-clause-gives

@@ -1,9 +1,9 @@
 use Rattle.std.proofs.Common.{ap, refl}
 use Rattle.std.proofs.lemmas.Result.{err_from_is_err_and}
 use Rattle.stream_commands.specs.Rows.{redact_row}
-use Rattle.dump_questions.proofs.Reading.{ReadsAtMost-same}
+use Rattle.dump_questions.specs.Laws.Reading.{ReadsAtMost-same}
 use Rattle.stream_commands.proofs.Redacting.{Runs-redact}
-use Rattle.dump_questions.proofs.Runs.{Runs-unopened}
+use Rattle.dump_questions.specs.Laws.Runs.{Runs-unopened}
 use Rattle.stream_commands.proofs.redact.run_redact.Goals as goal
 
 pub returns-in_err-index : goal.returns-in_err-index

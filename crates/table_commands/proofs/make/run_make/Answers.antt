@@ -2,7 +2,7 @@ use Rattle.std.proofs.Common.{refl}
 use Rattle.std.proofs.lemmas.Result.{err_from_is_err_and}
 use Rattle.dump_write.specs.Made.{made}
 use Rattle.table_commands.specs.Rows.{make_task}
-use Rattle.dump_questions.proofs.Runs.{RunsAlone-told}
+use Rattle.dump_questions.specs.Laws.Runs.{RunsAlone-told}
 use Rattle.table_commands.proofs.make.run_make.Goals as goal
 
 pub returns-in_err-dump : goal.returns-in_err-dump

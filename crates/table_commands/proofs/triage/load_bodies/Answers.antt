@@ -1,13 +1,15 @@
 use Rattle.std.proofs.Common.{rules}
 use Rattle.dump_sections.specs.Index.{sections_in}
 use Rattle.table_commands.specs.Rows.{triage_sections}
-use Rattle.dump_questions.proofs.Bodies.{LoadsBodies-large, LoadsBodies-small}
+use Rattle.dump_questions.specs.Laws.Bodies.{LoadsBodies-large, LoadsBodies-small}
 use Rattle.table_commands.proofs.triage.load_bodies.Goals as goal
 
 pub returns-in-Some-clause-loads : goal.returns-in-Some-clause-loads
 returns-in-Some-clause-loads g c =
-    rw c.from.ensures (LoadsBodies-large g.D.Dumps.state (triage_sections (sections_in c.args.at.now.index.now)) c.args.at.now.limits.now.section c.args.dumps.now _ (search rules) c.in-Some.ensures)
+    let bodies = triage_sections (sections_in c.args.at.now.index.now) in
+    rw c.from.ensures (LoadsBodies-large g.D.Dumps.state bodies c.args.at.now.limits.now.section c.args.dumps.now _ (search rules) c.in-Some.ensures)
 
 pub returns-clause-loads : goal.returns-clause-loads
 returns-clause-loads g c =
-    LoadsBodies-small g.D.Dumps.state (triage_sections (sections_in c.args.at.now.index.now)) c.args.at.now.limits.now.section _ _ _ c.in_default.ensures c.read_bodies.ensures.reads c.read_bodies.ensures.fault
+    let bodies = triage_sections (sections_in c.args.at.now.index.now) in
+    LoadsBodies-small g.D.Dumps.state bodies c.args.at.now.limits.now.section _ _ _ c.in_default.ensures c.read_bodies.ensures.reads

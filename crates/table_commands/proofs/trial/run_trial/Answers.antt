@@ -3,7 +3,7 @@ use Rattle.std.proofs.lemmas.Result.{err_from_is_err_and}
 use Rattle.dump_trial.specs.Tallies.{trial_report}
 use Rattle.dump_trial.specs.Trial.{trial_of}
 use Rattle.table_commands.specs.Rows.{trial_task}
-use Rattle.dump_questions.proofs.Runs.{RunsAlone-told}
+use Rattle.dump_questions.specs.Laws.Runs.{RunsAlone-told}
 use Rattle.table_commands.proofs.trial.run_trial.Goals as goal
 
 pub returns-in_err-summary : goal.returns-in_err-summary

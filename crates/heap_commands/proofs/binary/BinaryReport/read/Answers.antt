@@ -1,7 +1,7 @@
 use Rattle.std.proofs.Common.{◌∙◌, ap, rules, sym, ℕ}
 use Rattle.heap_cells.specs.Loading.{enc_of}
 use Rattle.heap_commands.proofs.BinaryLoads.{reads-binary, IsHalted-body}
-use Rattle.dump_questions.proofs.Reading.{IsHalted-subject, ReadsFor-halted}
+use Rattle.dump_questions.specs.Laws.Reading.{IsHalted-subject, ReadsFor-halted}
 use Rattle.heap_commands.specs.Rows.{binary_row}
 use Rattle.heap_commands.proofs.binary.BinaryReport.read.Goals as goal
 

@@ -1,5 +1,5 @@
 use Rattle.heap_commands.proofs.RootLoads.{reads-cells}
-use Rattle.dump_questions.proofs.Reading.{ReadsAtMost-same}
+use Rattle.dump_questions.specs.Laws.Reading.{ReadsAtMost-same}
 use Rattle.heap_commands.proofs.cells.CellsReport.read.Goals as goal
 
 pub returns-clause-reads : goal.returns-clause-reads

@@ -1,8 +1,8 @@
 use Rattle.dump_questions.specs.Meaning.{no_body}
 use Rattle.heap_commands.specs.Terms.{no_external}
 use Rattle.heap_commands.proofs.RootLoads.{reads-ext}
-use Rattle.dump_questions.proofs.HeapLoads.{IsHalted-heap}
-use Rattle.dump_questions.proofs.Reading.{ReadsAtMost-same, ReadsFor-halted}
+use Rattle.dump_questions.specs.Laws.Heaps.{IsHalted-heap}
+use Rattle.dump_questions.specs.Laws.Reading.{ReadsAtMost-same, ReadsFor-halted}
 use Rattle.heap_commands.proofs.ext.ExtReport.read.Goals as goal
 
 pub returns-in_err-heap-clause-reads : goal.returns-in_err-heap-clause-reads

@@ -11,11 +11,11 @@ use Rattle.term_text.specs.Reach.{root_elements}
 use Rattle.term_text.specs.Roots.{answer_over, some_roots_report}
 use Rattle.term_unfold.specs.Walks.{Walk}
 use Rattle.dump_questions.specs.Meaning.{part_in}
-use Rattle.heap_commands.specs.Loads.{walk_in}
+use Rattle.heap_commands.specs.Inner.Loads.{walk_in}
 use Rattle.heap_commands.proofs.RootLoads.{roots-found}
 use Rattle.heap_commands.proofs.PartLoads.{peeked-told, HasRead-behind, IsHalted-behind, IsHalted-first}
-use Rattle.dump_questions.proofs.Bodies.{size-one}
-use Rattle.dump_questions.proofs.Reading.{IsHalted-subject, ReadsFor-halted, StopsFor-reading}
+use Rattle.dump_sections.specs.LoadingLaws.{bodies-one}
+use Rattle.dump_questions.specs.Laws.Reading.{IsHalted-subject, ReadsFor-halted, StopsFor-reading}
 use Rattle.heap_commands.specs.Rows.{peek_roots_row}
 use Rattle.heap_commands.proofs.peek.PeekRootsReport.read.Goals as goal
 
@@ -41,7 +41,7 @@ returns-in_err-roots-clause-reads g c =
     let before = g.D.Dumps.state c.args.dumps.now in
     let rooted = g.D.Dumps.state c.read_roots.new.dumps in
     let here = ap body_size (roots-found t.kind t.pid.now c.tag.result.now at.index.now _ c.tag.ensures c.first-place.ensures.section) in
-    let one = size-one (root_section t.kind t.pid.now (sections_in at.index.now)) in
+    let one = bodies-one (root_section t.kind t.pid.now (sections_in at.index.now)) in
     let roots = c.in_err-roots.ensures in
     ReadsFor-halted _ _ c.from_residual-in_err-roots.result _ c.from_residual-in_err-roots.ensures.1
     (IsHalted-first t.pid.now (body t.kind t.pid.now) None (text t.kind t.pid.now t.first t.count t.nodes t.marked) at.limits.now at.index.now before rooted
@@ -55,7 +55,7 @@ returns-in_err-part-clause-reads g c =
     let rooted = g.D.Dumps.state c.read_roots.new.dumps in
     let after = g.D.Dumps.state c.load_for_roots.new.dumps in
     let here = ap body_size (roots-found t.kind t.pid.now c.tag.result.now at.index.now _ c.tag.ensures c.first-place.ensures.section) in
-    let one = size-one (root_section t.kind t.pid.now (sections_in at.index.now)) in
+    let one = bodies-one (root_section t.kind t.pid.now (sections_in at.index.now)) in
     ReadsFor-halted _ _ c.from_residual-in_err-part.result _ c.from_residual-in_err-part.ensures.1
     (IsHalted-behind t.pid.now (body t.kind t.pid.now) None (text t.kind t.pid.now t.first t.count t.nodes t.marked) at.limits.now at.index.now before rooted
     c.in_ok-find_process.ensures.judges _ c.in_ok-roots.ensures.reads (omega (arith, here, one))
@@ -70,7 +70,7 @@ returns-clause-reads g c =
     let after = g.D.Dumps.state c.load_for_roots.new.dumps in
     let section = roots-found t.kind t.pid.now c.tag.result.now at.index.now _ c.tag.ensures c.first-place.ensures.section in
     let here = ap body_size section in
-    let one = size-one (root_section t.kind t.pid.now (sections_in at.index.now)) in
+    let one = bodies-one (root_section t.kind t.pid.now (sections_in at.index.now)) in
     let roots = c.in_ok-roots.ensures in
     HasRead-behind t.pid.now (body t.kind t.pid.now) None (text t.kind t.pid.now t.first t.count t.nodes t.marked) at.limits.now at.index.now before rooted
     c.in_ok-find_process.ensures.judges _ roots.reads (omega (arith, here, one)) (root_elements c.in_ok-roots.roots.shown) t.nodes after c.in_ok-part.part _ c.in_ok-part.ensures.gives

@@ -4,9 +4,9 @@ use Rattle.report_lines.specs.Lines.{newline}
 use Rattle.term_forms.specs.Elements.{Ref}
 use Rattle.term_text.specs.Roots.{answer_over, term_report}
 use Rattle.term_unfold.specs.Walks.{Walk}
-use Rattle.heap_commands.specs.Loads.{walk_in}
+use Rattle.heap_commands.specs.Inner.Loads.{walk_in}
 use Rattle.heap_commands.proofs.PartLoads.{ReadsFor-peeked}
-use Rattle.dump_questions.proofs.Reading.{IsHalted-subject, ReadsFor-halted}
+use Rattle.dump_questions.specs.Laws.Reading.{IsHalted-subject, ReadsFor-halted}
 use Rattle.heap_commands.specs.Rows.{peek_term_row}
 use Rattle.heap_commands.proofs.peek.PeekTermReport.read.Goals as goal
 

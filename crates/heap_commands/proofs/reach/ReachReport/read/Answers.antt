@@ -4,13 +4,13 @@ use Rattle.dump_sections.specs.Index.{sections_in}
 use Rattle.heap_cells.specs.DumpHeaps.{heap_map}
 use Rattle.term_forms.specs.Elements.{Element}
 use Rattle.heap_cells.specs.HeapMap.{HeapMap}
-use Rattle.heap_commands.specs.Loads.{terms_loaded, HoldsRoots}
+use Rattle.heap_commands.specs.Inner.Loads.{terms_loaded, HoldsRoots}
 use Rattle.root_views.specs.Sections.{root_bodies}
 use Rattle.heap_commands.specs.Rows.{Entered}
 use Rattle.dump_questions.specs.Heaps.{never}
 use Rattle.heap_commands.proofs.RootLoads.{roots-at, terms-told, StopsFor-last}
-use Rattle.dump_questions.proofs.HeapLoads.{small-before, HasRead-heap, IsHalted-heap, Takes-heap}
-use Rattle.dump_questions.proofs.Reading.{IsHalted-later, ReadsAtMost-same, ReadsFor-halted}
+use Rattle.dump_questions.specs.Laws.Heaps.{small-before, HasRead-heap, IsHalted-heap, Takes-heap}
+use Rattle.dump_questions.specs.Laws.Reading.{IsHalted-later, ReadsAtMost-same, ReadsFor-halted}
 use Rattle.heap_commands.proofs.reach.ReachReport.read.Goals as goal
 
 abbrev entered : HeapMap → List Element → Entered

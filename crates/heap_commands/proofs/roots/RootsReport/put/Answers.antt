@@ -4,7 +4,7 @@ use Rattle.root_views.specs.declared.kinds.RootKind.{RootKind}
 use Rattle.root_views.specs.Kinds.{roots_in}
 use Rattle.term_unfold.specs.Walks.{new_walk, Walk}
 use Rattle.term_text.specs.Roots.{answer_over, roots_report}
-use Rattle.dump_questions.proofs.Reading.{Tells-kept, Tells-put, Tells-stopped}
+use Rattle.dump_questions.specs.Laws.Reading.{Tells-kept, Tells-put, Tells-stopped}
 use Rattle.heap_commands.specs.declared.roots.Loaded.{Loaded}
 use Rattle.heap_commands.proofs.roots.RootsReport.put.Goals as goal
 

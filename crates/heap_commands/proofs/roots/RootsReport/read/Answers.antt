@@ -6,8 +6,8 @@ use Rattle.dump_sections.specs.Index.{sections_in}
 use Rattle.root_views.specs.Sections.{root_section}
 use Rattle.dump_questions.specs.Heaps.{never}
 use Rattle.heap_commands.proofs.RootLoads.{roots-found, roots-told, AreUnread-refused, StopsFor-last}
-use Rattle.dump_questions.proofs.HeapLoads.{small-before, walk-told, HasRead-heap, IsHalted-heap, StopsFor-previews, Takes-walk}
-use Rattle.dump_questions.proofs.Reading.{IsHalted-later, ReadsAtMost-same, ReadsFor-halted}
+use Rattle.dump_questions.specs.Laws.Heaps.{small-before, walk-told, HasRead-heap, IsHalted-heap, StopsFor-previews, Takes-walk}
+use Rattle.dump_questions.specs.Laws.Reading.{IsHalted-later, ReadsAtMost-same, ReadsFor-halted}
 use Rattle.heap_commands.proofs.roots.RootsReport.read.Goals as goal
 
 pub returns-in_err-heap-clause-reads : goal.returns-in_err-heap-clause-reads

@@ -2,8 +2,8 @@ use Rattle.std.proofs.Common.{◌∙◌, arith}
 use Rattle.dump_io.specs.Laws.Reads.{ReadsAtMost-then}
 use Rattle.dump_questions.specs.Meaning.{no_body}
 use Rattle.dump_questions.specs.Heaps.{no_address}
-use Rattle.dump_questions.proofs.HeapLoads.{walk-told, HasRead-heap, IsHalted-heap, IsHalted-refused, StopsFor-previews, Takes-walk}
-use Rattle.dump_questions.proofs.Reading.{IsHalted-later, ReadsAtMost-same, ReadsFor-halted}
+use Rattle.dump_questions.specs.Laws.Heaps.{walk-told, HasRead-heap, IsHalted-heap, IsHalted-refused, StopsFor-previews, Takes-walk}
+use Rattle.dump_questions.specs.Laws.Reading.{IsHalted-later, ReadsAtMost-same, ReadsFor-halted}
 use Rattle.heap_commands.proofs.term.TermReport.read.Goals as goal
 
 pub returns-in_err-heap-clause-reads : goal.returns-in_err-heap-clause-reads

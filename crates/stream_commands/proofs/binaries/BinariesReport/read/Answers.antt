@@ -6,7 +6,7 @@ use Rattle.binary_holders.specs.Usage.{fronts_length, heaps_length}
 use Rattle.dump_questions.specs.Meaning.{memory_body, memory_section}
 use Rattle.stream_commands.specs.Rows.{used_in, used_report}
 use Rattle.stream_commands.proofs.HolderLoads.{HasRead-heard, IsOfBodies-holders, Takes-heard}
-use Rattle.dump_questions.proofs.Reading.{IsHalted-bodies, IsHalted-later, ReadsFor-halted, StopsFor-reading}
+use Rattle.dump_questions.specs.Laws.Reading.{IsHalted-bodies, IsHalted-on, ReadsFor-halted}
 use Rattle.stream_commands.proofs.binaries.BinariesReport.read.Goals as goal
 
 pub returns-in_err-node-clause-reads : goal.returns-in_err-node-clause-reads
@@ -18,10 +18,10 @@ pub returns-in_err-found-clause-reads : goal.returns-in_err-found-clause-reads
 returns-in_err-found-clause-reads g c =
     let read = c.in_ok-node.ensures in
     let heard = c.in_err-found.ensures in
-    ReadsFor-halted _ _ c.from_residual-in_err-found.result _ c.from_residual-in_err-found.ensures.1 (IsHalted-later _ _ _ _ _ _
+    ReadsFor-halted _ _ c.from_residual-in_err-found.result _ c.from_residual-in_err-found.ensures.1 (IsHalted-on _ _ _ _
     (Takes-heard memory_body (λ i pids. fronts_length i + heaps_length i pids) used_in used_report _ _ _ _ read.loads.allowed c.in_ok-node.node.procs (λ bytes all. read.node.table bytes all.opened)
     _ (ReadsAtMost-then read.loads.reads heard.reads) (omega arith))
-    read.loads.reads (StopsFor-reading (g.D.Dumps.state c.load_node.new.dumps) (g.D.Dumps.state c.binary_use.new.dumps) (λ why. ⊥) _ heard.fault))
+    read.loads.reads heard.fault)
 
 pub returns-clause-reads : goal.returns-clause-reads
 returns-clause-reads g c =

@@ -4,7 +4,7 @@ use Rattle.binary_holders.specs.Usage.{heaps_length, holders_in}
 use Rattle.glance_text.specs.Holders.{holders_report}
 use Rattle.dump_questions.specs.Meaning.{no_body}
 use Rattle.stream_commands.proofs.HolderLoads.{HasRead-heard, IsOfBodies-holders, Takes-heard}
-use Rattle.dump_questions.proofs.Reading.{IsHalted-bodies, IsHalted-later, ReadsFor-halted, StopsFor-reading}
+use Rattle.dump_questions.specs.Laws.Reading.{IsHalted-bodies, IsHalted-on, ReadsFor-halted}
 use Rattle.stream_commands.proofs.holders.HoldersReport.read.Goals as goal
 
 pub returns-in_err-procs-clause-reads : goal.returns-in_err-procs-clause-reads
@@ -18,10 +18,10 @@ returns-in_err-held-clause-reads g c =
     let addr = c.args.self.now.addr in
     let read = c.in_ok-procs.ensures in
     let heard = c.in_err-held.ensures in
-    ReadsFor-halted _ _ c.from_residual-in_err-held.result _ c.from_residual-in_err-held.ensures.1 (IsHalted-later _ _ _ _ _ _
+    ReadsFor-halted _ _ c.from_residual-in_err-held.result _ c.from_residual-in_err-held.ensures.1 (IsHalted-on _ _ _ _
     (Takes-heard no_body heaps_length (λ bytes i pids. holders_in bytes i pids addr) holders_report _ _ _ _ read.loads.allowed c.in_ok-procs.procs (λ bytes all. read.table bytes all.opened)
     _ (ReadsAtMost-then read.loads.reads heard.reads) (omega arith))
-    read.loads.reads (StopsFor-reading (g.D.Dumps.state c.load.new.dumps) (g.D.Dumps.state c.holders.new.dumps) (λ why. ⊥) _ heard.fault))
+    read.loads.reads heard.fault)
 
 pub returns-clause-reads : goal.returns-clause-reads
 returns-clause-reads g c =

@@ -1,7 +1,5 @@
-use Rattle.std.proofs.Common.{[], arith, rules, ℕ}
-use Rattle.std.specs.Option.{option_map_or}
-use Rattle.weight_text.specs.Weights.{weights_report}
-use Rattle.dump_questions.proofs.Reading.{IsHalted-subject, ReadsFor-halted}
+use Rattle.std.proofs.Common.{arith, rules, ℕ}
+use Rattle.dump_questions.specs.Laws.Reading.{IsHalted-subject, ReadsFor-halted}
 use Rattle.stream_commands.proofs.WeightLoads.{ReadsFor-cell}
 use Rattle.stream_commands.specs.Rows.{weigh_cell_row}
 use Rattle.stream_commands.proofs.weigh.WeighCellReport.read.Goals as goal
@@ -17,5 +15,6 @@ returns-clause-reads g c =
     let t = c.args.self.now in
     let at = c.args.at.now in
     let found = c.in_ok-found in
-    ReadsFor-cell t.pid.now t.addr (λ w. option_map_or (weights_report t.count) w []) at.limits.now at.index.now (g.D.Dumps.state c.args.dumps.now) (g.D.Dumps.state c.of_cell.new.dumps)
-    c.in_ok-find_process.ensures.judges _ found.ensures.reads (omega arith) found.found found.ensures.weights c.or_no_address.result c.or_no_address.ensures.judges c.or_no_address.ensures.found
+    let judged = c.or_no_address.ensures in
+    ReadsFor-cell t.pid.now t.count t.addr at.limits.now at.index.now (g.D.Dumps.state c.args.dumps.now) (g.D.Dumps.state c.of_cell.new.dumps)
+    c.in_ok-find_process.ensures.judges _ found.ensures.reads (omega arith) found.found found.ensures.weights c.or_no_address.result judged.judges judged.found

@@ -1,5 +1,5 @@
 use Rattle.std.proofs.Common.{refl}
-use Rattle.dump_questions.proofs.Reading.{alone, ReadsFor-whole}
+use Rattle.dump_questions.specs.Laws.Reading.{alone, ReadsFor-whole}
 use Rattle.table_commands.specs.Rows.{field_row}
 use Rattle.table_commands.proofs.field.FieldReport.read.Goals as goal
 

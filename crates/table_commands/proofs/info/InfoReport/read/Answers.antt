@@ -1,7 +1,7 @@
 use Rattle.std.proofs.Common.{refl, Some}
 use Rattle.dump_sections.specs.Bodies.{section_in}
-use Rattle.table_commands.specs.Loads.{seen_overview}
-use Rattle.dump_questions.proofs.Reading.{alone, ReadsFor-found}
+use Rattle.table_commands.specs.Inner.Loads.{seen_overview}
+use Rattle.dump_questions.specs.Laws.Reading.{alone, ReadsFor-found}
 use Rattle.table_commands.proofs.Overviews.{overview-told}
 use Rattle.table_commands.specs.Rows.{info_row}
 use Rattle.table_commands.proofs.info.InfoReport.read.Goals as goal

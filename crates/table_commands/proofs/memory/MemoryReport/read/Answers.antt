@@ -1,7 +1,7 @@
 use Rattle.std.proofs.Common.{refl, None}
 use Rattle.table_commands.specs.Rows.{fields_of}
 use Rattle.dump_questions.specs.Meaning.{memory_section}
-use Rattle.dump_questions.proofs.Reading.{ReadsFor-part}
+use Rattle.dump_questions.specs.Laws.Reading.{ReadsFor-part}
 use Rattle.table_commands.proofs.memory.MemoryReport.read.Goals as goal
 
 pub returns-clause-reads : goal.returns-clause-reads

@@ -2,7 +2,7 @@ use Rattle.std.proofs.Common.{rules, sym, Some, ℕ}
 use Rattle.dump_sections.specs.Bodies.{section_in}
 use Rattle.table_commands.specs.Rows.{fields_of, proc_row}
 use Rattle.dump_questions.specs.Meaning.{no_process, process_section}
-use Rattle.dump_questions.proofs.Reading.{IsHalted-subject, ReadsFor-halted, ReadsFor-part}
+use Rattle.dump_questions.specs.Laws.Reading.{IsHalted-subject, ReadsFor-halted, ReadsFor-part}
 use Rattle.table_commands.proofs.proc.ProcReport.read.Goals as goal
 
 pub returns-in_err-place-clause-reads : goal.returns-in_err-place-clause-reads

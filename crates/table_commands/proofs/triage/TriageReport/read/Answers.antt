@@ -1,6 +1,6 @@
 use Rattle.std.proofs.Common.{refl, rules}
-use Rattle.table_commands.specs.Loads.{seen_triage}
-use Rattle.dump_questions.proofs.Reading.{alone, IsHalted-memory, ReadsFor-bodies, ReadsFor-halted}
+use Rattle.table_commands.specs.Inner.Loads.{seen_triage}
+use Rattle.dump_questions.specs.Laws.Reading.{alone, IsHalted-memory, ReadsFor-bodies, ReadsFor-halted}
 use Rattle.table_commands.proofs.TriageLoads.{told-loaded}
 use Rattle.table_commands.specs.Rows.{triage_row}
 use Rattle.table_commands.proofs.triage.TriageReport.read.Goals as goal

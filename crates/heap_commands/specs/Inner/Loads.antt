@@ -2,7 +2,8 @@
 use Rattle.dump_questions.specs.Heaps.{address_cause, binary_count, heap_text_size}
 use Rattle.heap_commands.specs.Rows.{Entered, Rooted}
 use Rattle.dump_questions.specs.Bodies.{shown_body}
-use Rattle.std.specs.Prelude.{◌*◌, ◌++◌, ◌+◌, ◌≡◌, ◌≤◌, [], length, min, All, Bool, Contains, IsSome, List, MatchResult, None, Option, Result, Some, ℕ}
+use Rattle.std.specs.Prelude.{◌*◌, ◌++◌, ◌+◌, ◌≡◌, ◌≤◌, [], length, min, All, Bool, Contains, IsSome, List, MatchResult}
+use Rattle.std.specs.Prelude.{None, Option, Result, Some, ℕ}
 use Rattle.std.specs.Option.{option_to_list}
 use Rattle.dump_io.specs.Limits.{Numbers}
 use Rattle.dump_sections.specs.Bodies.{body_in, body_start, section_in, IsBodyIn, IsPlaceIn}
@@ -57,7 +58,8 @@ pub record ReadsPart (section size : ℕ) (has_lines : List Cell → Type 0) (be
 
 -- over a part of a heap these elements have the answers that they have over the whole
 pub record AreAnswered (now : Now) (index : Contents) (lines : HeapLines) (nodes : ℕ) (walk : Walk) (terms : List Element) : Type 0 where
-  pub each : (dump : List ℕ) → now ≡ told dump → (all : List Cell) → HasLines lines now all → (e : Element) → Contains terms e → (marked : Bool)
+  pub each : (dump : List ℕ) → now ≡ told dump → (all : List Cell) → HasLines lines now all
+      → (e : Element) → Contains terms e → (marked : Bool)
       → answer_over walk nodes marked e ≡ answer_in dump index lines.enc (first_cells [] all) e nodes marked
 
 -- an address that isn't known, if one is asked for
@@ -65,26 +67,29 @@ abbrev pub unknown_cause : Option ℕ → (ℕ → Bool) → Option Refusal
 unknown_cause None known = None
 unknown_cause (Some addr) known = address_cause addr (known addr)
 
--- the heap lacks it
+-- the heap lacks an address, if one is asked for
 abbrev pub lacks : Option ℕ → HeapMap → Option Refusal
 lacks addr heap = unknown_cause addr (has_cell heap.cells)
 
 -- a part of the heap of a process was loaded: the heap doesn't lack the address,
 -- and over the part these terms have the answers that they have in the dump
-pub record HoldsPart (pid : List ℕ) (addr : Option ℕ) (terms : List Element) (nodes : ℕ) (limits : Numbers) (index : Contents) (now : Now) (part : HeapPart) : Type 0 where
+pub record HoldsPart (pid : List ℕ) (addr : Option ℕ) (terms : List Element) (nodes : ℕ) (limits : Numbers) (index : Contents)
+    (now : Now) (part : HeapPart) : Type 0 where
   pub allowed : (bytes : List ℕ) → IsIndexed bytes limits index now → lacks addr (heap_map pid bytes) ≡ None
   pub answers : (bytes : List ℕ) → IsIndexed bytes limits index now → (e : Element) → Contains terms e → (marked : Bool)
       → answer_over (walk_in part) nodes marked e ≡ answer_over (walk_of pid bytes) nodes marked e
 
--- what a call does that loads such a part: beside the bodies of the heap and the literals it
--- reads what a part may take, and it is refused only if the heap lacks the address
-pub record GivesPart (pid : List ℕ) (addr : Option ℕ) (terms : List Element) (nodes : ℕ) (limits : Numbers) (index : Contents) (before after : DeviceState) (result : Result HeapPart Stop) : Type 0 where
+-- what a call does that loads a part of the heap of a process: beside the bodies of the heap and the
+-- literals it reads what a part may take, and it is refused only if the heap lacks the address
+pub record GivesPart (pid : List ℕ) (addr : Option ℕ) (terms : List Element) (nodes : ℕ) (limits : Numbers) (index : Contents)
+    (before after : DeviceState) (result : Result HeapPart Stop) : Type 0 where
   pub count : ℕ
   pub reads : ReadsAtMost before after count
   pub few : (bytes : List ℕ) → IsIndexed bytes limits index before.now
       → count ≤ bodies_length (heap_bodies pid (sections_in index)) + (16 * (min limits.section (heap_text_size pid bytes) + 4) + 128 * binary_count pid bytes)
   pub part : MatchResult result (HoldsPart pid addr terms nodes limits index before.now)
-      (StopsFor before after (λ why. (bytes : List ℕ) → IsIndexed bytes limits index before.now → lacks addr (heap_map pid bytes) ≡ Some why))
+      (StopsFor before after
+      (λ why. (bytes : List ℕ) → IsIndexed bytes limits index before.now → lacks addr (heap_map pid bytes) ≡ Some why))
 
 -- the roots that are shown of a section that may be missing, and the offset of its body
 pub record AreRootsFound (now : Now) (found : Option Section) (kind : RootKind) (first most : ℕ) (roots : SomeRoots × ℕ) : Type 0 where
@@ -92,11 +97,13 @@ pub record AreRootsFound (now : Now) (found : Option Section) (kind : RootKind) 
   pub shown : IfTold now (λ dump. roots.0 ≡ shown_roots kind first most (body_in dump found))
   pub places : All (IsPlaced roots.1) roots.0.shown
 
--- the sections at the places
+-- the sections with roots that are at the places
 abbrev pub roots_at : Contents → RootPlaces → List Section
-roots_at index places = (option_to_list (section_in index places.stack) ++ option_to_list (section_in index places.dict)) ++ option_to_list (section_in index places.mail)
+roots_at index places =
+    (option_to_list (section_in index places.stack) ++ option_to_list (section_in index places.dict))
+    ++ option_to_list (section_in index places.mail)
 
--- they are those with the roots of the process
+-- the sections at the places are those with the roots of the process
 pub record ArePlaces (pid : List ℕ) (index : Contents) (places : RootPlaces) : Type 0 where
   pub stack : section_in index places.stack ≡ root_section Stack pid (sections_in index)
   pub dict : section_in index places.dict ≡ root_section Dict pid (sections_in index)
@@ -108,22 +115,23 @@ pub record AreWithin (index : Contents) (places : RootPlaces) : Type 0 where
   pub dict : IsPlaceIn index places.dict
   pub mail : IsPlaceIn index places.mail
 
--- these are their bodies
+-- these are the bodies of the sections at the places
 pub record HoldsRoots (index : Contents) (now : Now) (places : RootPlaces) (roots : RootBodies) : Type 0 where
   pub stack : IsBodyIn now (section_in index places.stack) roots.stack.bytes.items
   pub dict : IsBodyIn now (section_in index places.dict) roots.dict.bytes.items
   pub mail : IsBodyIn now (section_in index places.mail) roots.mail.bytes.items
 
--- why they weren't read: one is too large, or the device failed; memory may be lacking at any time
+-- why bodies weren't read: one is too large, or the device failed; memory may be lacking at any time
 abbrev pub AreUnread : Option LargeSection → DeviceState → DeviceState → BodyFault → Type 0
 AreUnread large before after (SectionTooLarge at len) = IsSome large
 AreUnread large before after fault = IsUnloaded before after fault
 
--- the terms among the roots
+-- the terms among the roots that were read
 abbrev pub terms_loaded : RootBodies → List Element
 terms_loaded roots =
-    (root_elements (roots_in Stack roots.stack.bytes.items) ++ root_elements (roots_in Dict roots.dict.bytes.items)) ++ root_elements (roots_in Mail roots.mail.bytes.items)
+    (root_elements (roots_in Stack roots.stack.bytes.items) ++ root_elements (roots_in Dict roots.dict.bytes.items))
+    ++ root_elements (roots_in Mail roots.mail.bytes.items)
 
--- the heap, and the terms that refer to it
+-- the heap that was loaded, and the terms that refer to it
 abbrev pub seen_reach : ReachLoaded → Entered
 seen_reach loaded = record { heap = loaded.heap; terms = terms_loaded loaded.roots }

@@ -1,5 +1,5 @@
--- What the run of a command leaves, by what was opened, read and written, and how it ends.
-use Rattle.std.proofs.Common.{◌≡◌, ◌⊎◌, ◌≤◌, ℕ, List, [], Option, None, Some, Result, Ok, Err, MatchResult, if◌then◌else◌, refl, sym, ◌∙◌, ap, subst, inl, inr, arith, ◌^◌, ◌<◌}
+-- What the run of a command leaves, by what was opened, read and written, and how the run ends.
+use Rattle.std.proofs.Common.{◌≡◌, ◌⊎◌, ◌≤◌, ℕ, List, [], Option, None, Some, Result, Ok, Err, MatchResult, if◌then◌else◌, refl, sym, ◌∙◌, ap, subst, inl, inr, arith}
 use Rattle.std.specs.Prelude.{◌∷◌, Bool, true, false, IsSome, IsSomeAnd, IsTrue, MatchOption, is_some, IfErr}
 use Rattle.std.specs.Option.{option_map, option_map_or, option_or}
 use Rattle.dump_io.specs.Counts.{plus_capped}
@@ -16,7 +16,7 @@ use Rattle.report_text.specs.Refusals.{refusal_line}
 use Rattle.dump_questions.specs.Meaning.{Meaning}
 use Rattle.dump_questions.specs.Tasks.{Task, question, refusal_listed, refusal_unread, status_for, status_of}
 use Rattle.dump_questions.specs.Run.{EndsTold, IsDumpOf, IsLeft, IsLeftBy, IsLeftOf, IsMissing, TakesAtMost, Ends, IsFrontOf, IsRunOf, Reports}
-use Rattle.dump_questions.specs.Runs.{RunsAlone, EndsWith, Leaves, Runs, RunsOn, IsDone, IsRefusedFor}
+use Rattle.dump_questions.specs.Runs.{RunsAlone, EndsWith, Leaves, Runs, IsDone, IsRefusedFor}
 use Rattle.dump_questions.specs.Reading.{HasOpened, IsIndexed, IsUnopened, IsUnopenedFor, HasRead, IsHalted, StopsFor, Takes, Tells, TellsOf, refusal_over}
 use Rattle.dump_questions.specs.declared.stop.Stop.{Stop}
 use Rattle.dump_questions.specs.declared.stop.Stop.TheVariants.{Refused, NotRead, NotWritten, NoMemory}
@@ -36,6 +36,7 @@ IsLeft-kept task limits before after out out' kept = by task.streams
 
 -- ---- a dump that wasn't opened
 
+-- a question whose dump wasn't opened
 pub Runs-unopened : (means : Meaning) (name : List ℕ) (limits : Numbers) (before after : DeviceState) (out out' : SinkState) (stop : Stop)
     → IsUnopened name limits before after stop → IsKept out out' → Runs (question name means) limits before after out out' (Err stop)
 Runs-unopened means name limits before after out out' stop un kept =
@@ -64,7 +65,7 @@ stays : (told_files : Option Files) (before now : Now) (name bytes : List ℕ) �
 stays told_files before now name bytes same (inl is) = inl is
 stays told_files before now name bytes same (inr is) = inr (sym same ∙ is)
 
--- the dump was opened and read: what is known of it whatever came of the reading
+-- what is known of a dump that was opened and read, whatever came of the reading
 pub record IsThrough (means : Meaning) (name : List ℕ) (limits : Numbers) (index : Contents) (now : Now) (before after : DeviceState) : Type 0 where
   pub there : IsAbsent before.files name → ⊥
   pub told : (bytes : List ℕ) → IsFileOf before after name bytes
@@ -85,6 +86,7 @@ unread-indexed means bytes limits index now all =
     ap (λ o. option_or (option_map Open o) (refusal_listed means (sections bytes) limits)) all.accepted
     ∙ ap (λ i. refusal_listed means (sections_in i) limits) (sym all.is)
 
+-- a dump that was opened, of which a question took what it may take
 pub through : {a b c : DeviceState} (means : Meaning) (name : List ℕ) (limits : Numbers) (index : Contents)
     → HasOpened name limits a b index → Takes means limits index b c → IsThrough means name limits index b.now a c
 through {a} {b} {c} means name limits index opened takes =
@@ -107,7 +109,7 @@ through {a} {b} {c} means name limits index opened takes =
           );
     }
 
--- a command that stopped while it read
+-- a question that stopped while it read
 pub Runs-halted : {a b c : DeviceState} {out out' : SinkState} (means : Meaning) (name : List ℕ) (limits : Numbers) (index : Contents) (stop : Stop)
     → HasOpened name limits a b index → IsHalted means limits index b c stop → IsKept out out' → Runs (question name means) limits a c out out' (Err stop)
 Runs-halted {a} {b} {c} {out} {out'} means name limits index stop opened halted kept =
@@ -132,7 +134,7 @@ Runs-halted {a} {b} {c} {out} {out'} means name limits index stop opened halted 
 
 -- ---- a report
 
--- nothing is refused, this text is the report of a command, and this its status
+-- a command isn't refused, this text is its report, and this its status
 record IsReady (task : Task) (limits : Numbers) (before after : DeviceState) (text : List ℕ) (status : ℕ) : Type 0 where
   pub there : IsMissing before task → ⊥
   pub ends : EndsWith task status
@@ -141,7 +143,7 @@ record IsReady (task : Task) (limits : Numbers) (before after : DeviceState) (te
   pub later : before.faults ≤ after.faults
   pub taken : TakesAtMost task limits before after
 
--- a command that has its report
+-- a command that has its report, and wrote it or not
 told-is : (task : Task) (limits : Numbers) (before after : DeviceState) (out out' : SinkState) (text : List ℕ) (status : ℕ) (ended : Result ℕ Stop)
     → IsReady task limits before after text status → Tells out out' text status ended → Runs task limits before after out out' ended
 told-is task limits before after out out' text status ended ready tells =
@@ -175,7 +177,7 @@ ends-for (Some find) seen = by (find seen)
     by [] = inl refl
     by (finding ∷ findings) = inr (refl, refl)
 
--- a command that has read all, and told its report or not
+-- a question that has read all, and wrote its report or not
 pub Runs-told : {a b c : DeviceState} {out out' : SinkState} (means : Meaning) (name : List ℕ) (limits : Numbers) (index : Contents) (seen : means.What) (ended : Result ℕ Stop)
     → HasOpened name limits a b index → HasRead means limits index b c seen → TellsOf means seen out out' ended → Runs (question name means) limits a c out out' ended
 Runs-told {a} {b} {c} {out} {out'} means name limits index seen ended opened read tells =
@@ -275,12 +277,12 @@ IsRunOf-ended task limits status before after out out' err err' ended runs ends 
     unread (Err NotWritten) all ends gone = absurd (all.there gone)
     unread (Err NoMemory) all ends gone = inr ends.0
 
--- the bytes of a file that is there
+-- a file whose bytes are told is there
 held-there : (told_files : Option Files) (name bytes : List ℕ) → IsHeld told_files name bytes → IsAbsent told_files name → ⊥
 held-there None name bytes is gone = gone
 held-there (Some files) name bytes is gone = let no : ⊥ = cc (sym gone ∙ is) in no
 
--- a dump whose bytes are told was read where the device didn't fail
+-- where the device didn't fail, a dump whose bytes are told was read
 there : (before after : DeviceState) (name : Option (List ℕ)) (bytes : List ℕ) → MatchOption name (bytes ≡ []) (λ n. IsFileOf before after n bytes)
     → (IsSomeAnd name (IsAbsent before.files) → after.now ≡ closed) → (DeviceFailed before after → ⊥) → IsSomeAnd name (λ n. DeviceFailed before after ⊎ IsAbsent before.files n) → ⊥
 there before after None bytes input shut well unread = unread
@@ -288,7 +290,7 @@ there before after (Some name) bytes input shut well (inl failed) = well failed
 there before after (Some name) bytes (inl held) shut well (inr gone) = held-there before.files name bytes held gone
 there before after (Some name) bytes (inr opened) shut well (inr gone) = let no : ⊥ = cc (sym (shut gone) ∙ opened) in no
 
--- where nothing is refused and nothing failed the whole report was written, or memory was wanting
+-- where nothing is refused and nothing failed, the whole report was written, or memory was lacking
 pub IsRunOf-complete : (task : Task) (limits : Numbers) (status : ℕ) (before after : DeviceState) (out out' err err' : SinkState) → IsRunOf task limits status before after out out' err err'
     → (bytes : List ℕ) → IsDumpOf before after task bytes → task.refusal bytes limits ≡ None
     → (DeviceFailed before after → ⊥) → (SinkFailed out out' → ⊥) → (SinkFailed err err' → ⊥) → (status ≡ task.status bytes) ⊎ (status ≡ 6)

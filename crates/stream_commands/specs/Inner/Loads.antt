@@ -1,41 +1,33 @@
 -- From what the reports are written, and what is known of it.
 use Rattle.dump_questions.specs.Meaning.{memory_body, memory_section}
 use Rattle.stream_commands.specs.Rows.{Held, Used}
-use Rattle.std.specs.Prelude.{◌++◌, ◌+◌, ◌≡◌, length, All, IfErr, IfOk, List, Result, ℕ}
+use Rattle.std.specs.Prelude.{◌++◌, ◌≡◌, length, All, List, ℕ}
 use Rattle.dump_sections.specs.Index.{sections_in, Contents}
-use Rattle.dump_sections.specs.Loading.{bodies_length, IsUnloaded}
 use Rattle.dump_sections.specs.Sections.{sections, Section}
 use Rattle.process_table.specs.Processes.{process_table, AreProcessesOver, IsProcessIn, ProcessTable}
 use Rattle.process_table.specs.Records.{record_sections}
 use Rattle.binary_holders.specs.Usage.{shown_use, NamesProcess}
 use Rattle.binary_holders.specs.declared.rows.Holding.{Holding}
-use Rattle.dump_io.specs.Dumps.{told, DeviceState, Now, ReadsAtMost}
-use Rattle.dump_sections.specs.declared.bodies.BodyFault.{BodyFault}
+use Rattle.dump_io.specs.Dumps.{told, Now}
 use Rattle.dump_sections.specs.Bodies.{IsBodyIn}
 use Rattle.stream_commands.specs.declared.binaries.Node.{Node}
 use Rattle.stream_commands.specs.declared.binaries.Loaded.{Loaded as BinariesLoaded}
 
--- the processes of an index, and what they hold
+-- the processes of a dump, and what was found that they hold
 abbrev pub seen_held : {A : Type 0} → Contents → ProcessTable → A → Held A
 seen_held index procs held = record { index = index; processes = procs.processes; held = held }
 
--- the sections that are read before the heaps are looked through
+-- the sections that `binaries` reads before it looks through the heaps
 abbrev pub node_sections : List Section → List Section
 node_sections sections = memory_body sections ++ record_sections sections
 
--- what was read of them is of what is open
+-- what `binaries` has read of these sections is of what is open
 pub record HoldsNode (index : Contents) (now : Now) (node : Node) : Type 0 where
   pub memory : IsBodyIn now (memory_section (sections_in index)) node.memory.bytes.items
   pub table : (bytes : List ℕ) → now ≡ told bytes → node.procs ≡ process_table bytes
   pub over : AreProcessesOver index node.procs
 
--- their bodies, none of which is too large, were read, or not
-pub record ReadsNode (index : Contents) (before after : DeviceState) (result : Result Node BodyFault) : Type 0 where
-  pub reads : ReadsAtMost before after (bodies_length (node_sections (sections_in index)))
-  pub node : IfOk result (HoldsNode index before.now)
-  pub fault : IfErr result (IsUnloaded before after)
-
--- the processes of an index, and the use of its binaries
+-- the processes of a dump, and what was found of the use of its binaries
 abbrev pub seen_use : Contents → BinariesLoaded → Held Used
 seen_use index loaded =
     seen_held index loaded.node.procs (record { usage = shown_use loaded.found; memory = loaded.node.memory.bytes.items })

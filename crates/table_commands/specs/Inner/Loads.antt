@@ -1,11 +1,9 @@
 -- From what the reports are written, and what is known of it.
 use Rattle.dump_questions.specs.Meaning.{memory_section}
-use Rattle.table_commands.specs.Rows.{triage_sections, Overview}
+use Rattle.table_commands.specs.Rows.{Overview}
 use Rattle.table_commands.specs.Triage.{Told}
-use Rattle.std.specs.Prelude.{◌<◌, ◌≡◌, length, All, IfErr, IfOk, IfSome, List, Result, Some, ℕ}
+use Rattle.std.specs.Prelude.{◌<◌, ◌≡◌, length, All, IfSome, List, Some, ℕ}
 use Rattle.dump_sections.specs.Index.{sections_in, Contents}
-use Rattle.dump_sections.specs.Loading.{bodies_length, IsUnloaded}
-use Rattle.dump_sections.specs.Sections.{sections}
 use Rattle.process_table.specs.Processes.{process_table, IsProcessIn}
 use Rattle.table_sections.specs.declared.kinds.TableKind.TheVariants.{Ets}
 use Rattle.table_sections.specs.Tables.{table_of, AreListed, IsTableOver}
@@ -13,23 +11,22 @@ use Rattle.dump_audit.specs.Findings.{audit_of, Audit}
 use Rattle.std.specs.Option.{option_map}
 use Rattle.report_text.specs.Reports.{version_text}
 use Rattle.audit_bodies.specs.declared.loading.AuditBodies.{AuditBodies}
-use Rattle.dump_io.specs.Dumps.{told, DeviceState, Now, ReadsAtMost}
-use Rattle.dump_sections.specs.declared.bodies.BodyFault.{BodyFault}
+use Rattle.dump_io.specs.Dumps.{told, Now}
 use Rattle.dump_sections.specs.Bodies.{section_in, IsBodyIn}
 use Rattle.process_table.specs.Records.{proc_places}
 use Rattle.dump_questions.specs.declared.subjects.Body.{Body}
 use Rattle.table_commands.specs.declared.triage.Places.{Places}
 use Rattle.table_commands.specs.declared.triage.Loaded.{Loaded as TriageLoaded}
 
--- what it tells of a dump, by the index and the first body
+-- what `info` tells of a dump, by the index and the first body
 abbrev pub seen_overview : Contents → Body → Overview
 seen_overview index body = record { version = version_text index.version; index = index; first = body.bytes.items }
 
--- what is audited
+-- what an audit is of, by the index and what was loaded
 abbrev pub loaded_audit : ℕ → Contents → AuditBodies → Audit
 loaded_audit limit index loaded = audit_of index loaded.procs.processes limit (option_map (λ counts. counts.items) loaded.mails)
 
--- what was loaded, regardless of where it lies in memory
+-- what `triage` tells of a dump, by the index and what was loaded
 abbrev pub seen_triage : Contents → TriageLoaded → Told
 seen_triage index loaded = record {
   index = index;
@@ -39,7 +36,7 @@ seen_triage index loaded = record {
   tables = loaded.tables;
 }
 
--- the sections after the first one are those of the index
+-- these places are those of the sections that `triage` loads after the first one
 pub record AreFound (index : Contents) (places : Places) : Type 0 where
   pub memory : section_in index places.memory ≡ memory_section (sections_in index)
   pub within : IfSome places.memory (λ i. i < length index.headers)
@@ -47,21 +44,14 @@ pub record AreFound (index : Contents) (places : Places) : Type 0 where
   pub kind : places.tables.kind ≡ Ets
   pub tables : AreListed index places.tables
 
--- what was read is of what is open
+-- what `triage` has read is of what is open
 pub record HoldsBodies (index : Contents) (now : Now) (loaded : TriageLoaded) : Type 0 where
   pub first : IsBodyIn now (section_in index (Some 0)) loaded.first.bytes.items
   pub memory : IsBodyIn now (memory_section (sections_in index)) loaded.memory.bytes.items
   pub procs : (bytes : List ℕ) → now ≡ told bytes → loaded.procs ≡ process_table bytes
   pub tables : (bytes : List ℕ) → now ≡ told bytes → loaded.tables ≡ table_of Ets bytes
 
--- each process and each table is one of the index
+-- each process and each table that `triage` has read is one of the index
 pub record Fits (index : Contents) (loaded : TriageLoaded) : Type 0 where
   pub sections : All (IsProcessIn index) loaded.procs.processes
   pub tables : IsTableOver Ets index loaded.tables
-
--- the bodies, none of which is too large, were read, or not
-pub record ReadsBodies (index : Contents) (before after : DeviceState) (loaded : Result TriageLoaded BodyFault) : Type 0 where
-  pub reads : ReadsAtMost before after (bodies_length (triage_sections (sections_in index)))
-  pub bodies : IfOk loaded (HoldsBodies index before.now)
-  pub fits : IfOk loaded (Fits index)
-  pub fault : IfErr loaded (IsUnloaded before after)

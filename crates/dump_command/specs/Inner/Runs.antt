@@ -9,6 +9,7 @@ use Rattle.dump_questions.specs.declared.stop.Stop.{Stop}
 use Rattle.dump_command.specs.Report.{task}
 
 -- a command ended over a device, which one without a file leaves as it is
-pub record RunsOn {D : Type 0} (state : D → DeviceState) (cmd : Command) (limits : Numbers) (old new : D) (out out' : SinkState) (ended : Result ℕ Stop) : Type 0 where
+pub record RunsOn {D : Type 0} (state : D → DeviceState) (cmd : Command) (limits : Numbers) (old new : D) (out out' : SinkState)
+    (ended : Result ℕ Stop) : Type 0 where
   pub runs : Runs (task cmd) limits (state old) (state new) out out' ended
   pub idle : file_name cmd ≡ None → new ≡ old
