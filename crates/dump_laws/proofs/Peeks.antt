@@ -17,7 +17,7 @@ use Rattle.dump_questions.specs.Heaps.{no_address, too_dense}
 use Rattle.dump_laws.specs.Laws.{found_roots}
 use Rattle.dump_laws.specs.Peeks.{PeeksRoots, PeeksTerms}
 
--- what isn't refused for any of these causes isn't refused for those that `peek` has
+-- where a command isn't refused for any of its causes, `peek` isn't for those that it has of them
 peeks-accepted : (opening absent large dense held : Option Refusal) → option_or (option_or opening (option_or absent large)) (option_or dense held) ≡ None
     → option_or (option_or opening (option_or absent None)) held ≡ None
 peeks-accepted opening absent large dense held none =
@@ -27,7 +27,7 @@ peeks-accepted opening absent large dense held none =
     let last = both-none dense held listed.1 in
     rw (front.0, there.0, last.1) refl
 
--- all of a list are at most as many as it has
+-- a list has no more elements than its length, from the first on
 take-reaching : {A : Type 0} (xs : List A) (n : ℕ) → length xs ≤ n → take n xs ≡ xs
 take-reaching [] zero few = refl
 take-reaching [] (suc n) few = refl

@@ -24,13 +24,14 @@ use Rattle.heap_cells.specs.DumpHeaps.{heap_map, payloads_of}
 use Rattle.term_unfold.specs.DumpWalks.{walk_of}
 use Rattle.root_views.specs.Sections.{root_section}
 
--- it has the same processes
+-- a redacted dump has the same processes
 abbrev pub KeepsProcesses : Type 0
 KeepsProcesses = (bytes : List ℕ) → process_table (redacted bytes) ≡ process_table bytes
 
--- an audit finds the same in it
+-- an audit finds the same in a redacted dump
 abbrev pub KeepsFindings : Type 0
-KeepsFindings = (bytes : List ℕ) (limit : ℕ) (full : Bool) → findings (audit_in limit full (redacted bytes)) ≡ findings (audit_in limit full bytes)
+KeepsFindings =
+    (bytes : List ℕ) (limit : ℕ) (full : Bool) → findings (audit_in limit full (redacted bytes)) ≡ findings (audit_in limit full bytes)
 
 -- ---- heaps
 
@@ -39,20 +40,20 @@ abbrev pub blank_form : Enc → HeapForm → HeapForm
 blank_form enc (HeapBin size chars) = HeapBin size (map (blank enc) chars)
 blank_form enc form = form
 
--- a cell with such a form, at the same address
+-- a cell with the characters of a heap binary made blank, at the same address
 abbrev pub blank_cell : Enc → Cell → Cell
 blank_cell enc cell = record { address = cell.address; form = option_map (blank_form enc) cell.form }
 
--- a heap with such cells in the same order, as many of them its own
+-- a heap with the characters of its heap binaries made blank: its cells stand in the same order, as many of them its own
 abbrev pub blank_heap : HeapMap → HeapMap
 blank_heap heap =
     record { cells = map (blank_cell heap.enc) heap.cells; own = heap.own; enc = heap.enc }
 
--- the heap of a process differs only in the characters of its heap binaries
+-- the heap of a process in a redacted dump differs only in the characters of its heap binaries
 abbrev pub KeepsHeaps : Type 0
 KeepsHeaps = (bytes pid : List ℕ) → heap_map pid (redacted bytes) ≡ blank_heap (heap_map pid bytes)
 
--- so it has the same addresses in the same order
+-- the heap of a process in a redacted dump has the same addresses in the same order
 abbrev pub KeepsAddresses : Type 0
 KeepsAddresses = (bytes pid : List ℕ) → addresses (heap_map pid (redacted bytes)).cells ≡ addresses (heap_map pid bytes).cells
 
@@ -62,7 +63,7 @@ KeepsAddresses = (bytes pid : List ℕ) → addresses (heap_map pid (redacted by
 abbrev pub found_roots : RootKind → List ℕ → List ℕ → List BodyRoot
 found_roots kind pid bytes = roots_in kind (body_in bytes (root_section kind pid (sections bytes)))
 
--- each process has the same roots
+-- each process of a redacted dump has the same roots
 abbrev pub KeepsRoots : Type 0
 KeepsRoots = (kind : RootKind) (bytes pid : List ℕ) → found_roots kind pid (redacted bytes) ≡ found_roots kind pid bytes
 
@@ -72,13 +73,13 @@ blank_value enc (Immediate element) = Immediate element
 blank_value enc (OfCell a form) = OfCell a (blank_form enc form)
 
 abbrev mutual
-  -- a tree with such leaves: its nodes, their addresses and what is bad are the same
+  -- a tree with the characters of heap binaries made blank: its nodes, their addresses and what is bad are the same
   pub blank_tree : Enc → Tree → Tree
   blank_tree enc (Leaf value) = Leaf (blank_value enc value)
   blank_tree enc (Bad address why) = Bad address why
   blank_tree enc (Branch kind children) = Branch kind (blank_trees enc children)
 
-  -- each of a list of trees
+  -- each tree of a list with the characters of heap binaries made blank
   pub blank_trees : Enc → Trees → Trees
   blank_trees enc none = none
   blank_trees enc (more tree trees) = more (blank_tree enc tree) (blank_trees enc trees)
@@ -87,13 +88,16 @@ abbrev mutual
 abbrev pub tree_in : List ℕ → Element → List ℕ → Tree
 tree_in pid root bytes = unfolding_of (heap_map pid bytes).cells root
 
--- the tree of each element differs only in the characters of heap binaries
+-- the tree of each element in a redacted dump differs only in the characters of heap binaries
 abbrev pub KeepsTrees : Type 0
-KeepsTrees = (bytes pid : List ℕ) (root : Element) → tree_in pid root (redacted bytes) ≡ blank_tree (payloads_of bytes) (tree_in pid root bytes)
+KeepsTrees =
+    (bytes pid : List ℕ) (root : Element) → tree_in pid root (redacted bytes) ≡ blank_tree (payloads_of bytes) (tree_in pid root bytes)
 
--- so within each budget the first bad address is the same, or none is bad
+-- within each budget the first bad address of an element is the same in a redacted dump, or none is bad in both
 abbrev pub KeepsVerdicts : Type 0
-KeepsVerdicts = (bytes pid : List ℕ) (root : Element) (nodes : ℕ) → verdict (tree_in pid root (redacted bytes)) nodes ≡ verdict (tree_in pid root bytes) nodes
+KeepsVerdicts =
+    (bytes pid : List ℕ) (root : Element) (nodes : ℕ)
+    → verdict (tree_in pid root (redacted bytes)) nodes ≡ verdict (tree_in pid root bytes) nodes
 
 -- a leaf that holds a heap binary, a reference to a binary or a sub binary
 abbrev pub is_binary : Value → Bool
@@ -106,7 +110,7 @@ is_binary value = false
 abbrev pub text_over : Walk → Value → List ℕ
 text_over walk value = leaf_text walk.heap.enc walk.heap.cells walk.previews value
 
--- the text of each other leaf is the same
+-- the text of each other leaf is the same in a redacted dump
 abbrev pub KeepsLeaves : Type 0
 KeepsLeaves = (bytes pid : List ℕ) (value : Value) → is_binary value ≡ false
     → text_over (walk_of pid (redacted bytes)) (blank_value (payloads_of bytes) value) ≡ text_over (walk_of pid bytes) value

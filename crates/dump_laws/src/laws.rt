@@ -1,6 +1,7 @@
 // What is the same in a redacted dump, what `peek` reports, and what is read
 // back of an audit. Each law is the contract of a function that does nothing.
-ghost use Rattle.dump_laws.specs.Laws.{KeepsProcesses, KeepsFindings, KeepsHeaps, KeepsAddresses, KeepsRoots, KeepsTrees, KeepsVerdicts, KeepsLeaves, AuditsReadBack};
+ghost use Rattle.dump_laws.specs.Laws.{AuditsReadBack, KeepsAddresses, KeepsFindings, KeepsHeaps, KeepsLeaves};
+ghost use Rattle.dump_laws.specs.Laws.{KeepsProcesses, KeepsRoots, KeepsTrees, KeepsVerdicts};
 ghost use Rattle.dump_laws.specs.Peeks.{PeeksRoots, PeeksTerms};
 
 use dump_redact::{binaries_stay, bodies_are_redacted, sections_stay};
