@@ -1,4 +1,5 @@
-//! `case_runner FILES`: runs the cases in some files, and says how many passed and which did not.
+//! `case_runner FILES [NAME]`: runs the cases in some files, or those alone that have a name, and says how many
+//! passed and which did not. A word that ends in `.cases` is a file, and another one the name.
 //!
 //! A case is a run of edump's words over a dump in memory, and what it leaves: its status, and all bytes on its
 //! output and its standard error. Its file has a line for each of these, which begins with a word or a sign:
@@ -47,10 +48,20 @@ use script::run_file;
 use std::{env, fs, io};
 
 fn main(rt: HostRuntime) -> io::Result<()> {
+    let mut files: Vec<String> = Vec::new(rt.alloc());
+    let mut name: Option<String> = None;
+    for word in env::args(&rt)?.skip(1) {
+        if word.as_str().ends_with(".cases") {
+            files.push(word)?;
+        } else {
+            name = Some(word);
+        }
+    }
+    let only = name.as_ref().map(|name| name.as_str());
     let mut passed = 0u64;
-    for name in env::args(&rt)?.skip(1) {
-        let text = fs::read_to_string(&rt, name.as_str())?;
-        passed = passed.saturating_add(run_file(&rt, text.as_str())?);
+    for file in &files {
+        let text = fs::read_to_string(&rt, file.as_str())?;
+        passed = passed.saturating_add(run_file(&rt, text.as_str(), only)?);
     }
     println!(&rt; "{passed} cases passed")?;
     Ok(())

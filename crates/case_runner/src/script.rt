@@ -1,4 +1,6 @@
 // A file of cases.
+ghost use Rattle.std.specs.Prelude.{◌≡◌, ◌↔◌, IfSome, IsNone, IsTrue};
+
 use crate::case::Case;
 use crate::outcome::{Failure, Fault, Hindrance, Outcome};
 use crate::passing::check;
@@ -64,10 +66,21 @@ fn passes(rt: &HostRuntime, case: &Case) -> io::Result<bool> {
     }
 }
 
-// How many cases an ended case makes that passed: the case itself, and the
-// same through `peek`, if that shows it too; if no case has begun, none.
-fn end_case(rt: &HostRuntime, case: &mut Case) -> io::Result<u64> {
-    if case.name.is_empty() {
+// Whether the case with this name is to run: each is, unless one name is asked for.
+fn is_asked_for(name: &str, only: Option<&str>) -> bool
+    ensures each { IsNone only.entry → IsTrue result }
+    ensures one { IfSome only.entry (λ asked. IsTrue result ↔ (name.now ≡ asked.now)) }
+{
+    match only {
+        Some(asked) => name == asked,
+        None => true,
+    }
+}
+
+// How many cases an ended case makes that passed: the case itself, and the same
+// through `peek`, if that shows it too; none, if it isn't asked for or none has begun.
+fn end_case(rt: &HostRuntime, case: &mut Case, only: Option<&str>) -> io::Result<u64> {
+    if case.name.is_empty() || !is_asked_for(case.name.as_str(), only) {
         return Ok(0);
     }
     let mut passed = 0u64;
@@ -81,12 +94,12 @@ fn end_case(rt: &HostRuntime, case: &mut Case) -> io::Result<u64> {
 }
 
 // Takes a line of a file of cases, and returns how many passed of the case that it ends.
-fn take_line(rt: &HostRuntime, case: &mut Case, line: &str) -> io::Result<u64> {
+fn take_line(rt: &HostRuntime, case: &mut Case, line: &str, only: Option<&str>) -> io::Result<u64> {
     if line.is_empty() || line.starts_with('#') {
         return Ok(0);
     }
     if let Some(name) = line.strip_prefix("case ") {
-        let passed = end_case(rt, case)?;
+        let passed = end_case(rt, case, only)?;
         case.begin(rt.alloc(), name)?;
         return Ok(passed);
     }
@@ -96,12 +109,13 @@ fn take_line(rt: &HostRuntime, case: &mut Case, line: &str) -> io::Result<u64> {
     Ok(0)
 }
 
-/// Runs the cases of a file, reports each that does not pass, and returns how many passed.
-pub fn run_file(rt: &HostRuntime, text: &str) -> io::Result<u64> {
+/// Runs the cases of a file, or those alone that have the name asked for, reports each that
+/// does not pass, and returns how many passed.
+pub fn run_file(rt: &HostRuntime, text: &str, only: Option<&str>) -> io::Result<u64> {
     let mut case = Case::new(rt.alloc());
     let mut passed = 0u64;
     for line in text.lines() {
-        passed = passed.saturating_add(take_line(rt, &mut case, line)?);
+        passed = passed.saturating_add(take_line(rt, &mut case, line, only)?);
     }
-    Ok(passed.saturating_add(end_case(rt, &mut case)?))
+    Ok(passed.saturating_add(end_case(rt, &mut case, only)?))
 }
