@@ -1,4 +1,4 @@
-ghost use Rattle.std.specs.Prelude.{◌+◌, ◌≤◌};
+ghost use Rattle.std.specs.Prelude.{◌+◌, ◌<◌, ◌≤◌};
 ghost use Rattle.dump_io.specs.Dumps.{IsOpen, size_of};
 
 use dump_io::{Dumps, Failed, Sink, read_full, write_all};
