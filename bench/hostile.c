@@ -478,8 +478,18 @@ static void put_thousandth(FILE *f, long n) { fprintf(f, "H%lX", 16 * (n * (cell
 
 static void budgets(FILE *f, long count) {
     cells = count;
-    mailbox(f, 1000, plain ? put_small : put_thousandth);
-    list(f, 40 * (count - 1));
+    mailbox(f, 1000, put_thousandth);
+    if (!plain) {
+        list(f, 40 * (count - 1));
+        return;
+    }
+    // A thousand lists of their own, one behind the other.
+    put_heap(f);
+    for (long i = 1; i <= count; i++) {
+        fprintf(f, "%012lX:lI%08ld|", 16 * i, i % 100000000);
+        if (i % (count / 1000)) fprintf(f, "H%012lX\n", 16 * (i + 1));
+        else fputs("N\n", f);
+    }
 }
 
 static void upwards(FILE *f, long count) {
