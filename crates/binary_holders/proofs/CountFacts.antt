@@ -11,7 +11,7 @@ use Rattle.std.proofs.lemmas.List.Sums.{sum_by-cons, sum_by_push, count_by-le-le
 use Rattle.binary_holders.specs.declared.rows.Holding.{Holding}
 use Rattle.binary_holders.specs.declared.targets.Binary.{Binary}
 use Rattle.binary_holders.specs.declared.counts.Counts.{Counts}
-use Rattle.size_order.specs.Sums.{capped}
+use Rattle.text_groups.specs.Sums.{capped}
 use Rattle.binary_holders.specs.Held.{bytes_held, cells_holding, holding_of, holds, holders_of, is_unstored, whole_lines}
 use Rattle.binary_holders.specs.StoredBinaries.{is_among}
 use Rattle.binary_holders.specs.Inner.Places.{numbers_in, IsOnlyPlace}

@@ -16,7 +16,7 @@ use Rattle.dump_io.specs.Laws.Options.{none-where}
 use Rattle.dump_sections.specs.Bodies.{section_at}
 use Rattle.dump_sections.specs.Index.{Contents, sections_in}
 use Rattle.dump_sections.specs.Sections.{Section}
-use Rattle.stored_binaries.specs.StoredBinaries.{binary_number}
+use Rattle.binary_refs.specs.StoredBinaries.{binary_number}
 use Rattle.binary_holders.specs.declared.stored.Found.{Found}
 use Rattle.binary_holders.specs.declared.stored.StoredAt.{StoredAt}
 use Rattle.binary_holders.specs.StoredBinaries.{Stored, stored, stored_at, stored_binary, firsts, is_among}

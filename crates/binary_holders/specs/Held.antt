@@ -1,7 +1,7 @@
 -- Which processes hold which binaries, from what their heaps refer to.
 use Rattle.std.specs.Prelude.{ℕ, Bool, ◌&&◌, not, List, map, filter, nat_lt}
 use Rattle.std.specs.List.{count_by, sum_by, enumerate_from}
-use Rattle.size_order.specs.Sums.{capped}
+use Rattle.text_groups.specs.Sums.{capped}
 use Rattle.binary_holders.specs.declared.rows.Holding.{Holding}
 use Rattle.binary_holders.specs.declared.rows.WholeLines.{WholeLines}
 use Rattle.binary_holders.specs.declared.targets.Binary.{Binary}

@@ -3,7 +3,7 @@ use Rattle.std.specs.Prelude.{ℕ, Bool, ◌==◌, List, [], ◌∷◌, Option, 
 use Rattle.std.specs.List.{filter_map, list_any}
 use Rattle.dump_sections.specs.Bodies.{body_of}
 use Rattle.dump_sections.specs.Sections.{Section}
-use Rattle.stored_binaries.specs.StoredBinaries.{binary_number, size_stated}
+use Rattle.binary_refs.specs.StoredBinaries.{binary_number, size_stated}
 
 -- a binary: its number, and its section
 pub record Stored : Type 0 where

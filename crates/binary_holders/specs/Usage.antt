@@ -12,10 +12,10 @@ use Rattle.binary_holders.specs.declared.rows.WholeLines.{WholeLines}
 use Rattle.binary_holders.specs.declared.using.BinaryUse.{BinaryUse}
 use Rattle.binary_holders.specs.declared.targets.Binary.{Binary}
 use Rattle.binary_holders.specs.declared.texts.Reference.{Reference}
-use Rattle.size_order.specs.Sums.{capped}
+use Rattle.text_groups.specs.Sums.{capped}
 use Rattle.binary_holders.specs.Held.{holdings, holders_of, whole_lines}
 use Rattle.binary_holders.specs.HeapReferences.{numbers_referred, references_of}
-use Rattle.size_order.specs.Sorting.{most_first}
+use Rattle.text_groups.specs.Sorting.{most_first}
 use Rattle.binary_holders.specs.StoredBinaries.{Stored, stored, size_in}
 
 -- the pids of these processes

@@ -8,8 +8,8 @@ ghost use Rattle.binary_holders.specs.StoredBinaries.{is_among};
 use crate::rows::{Holding, WholeLines};
 use crate::targets::Targets;
 use crate::texts::Reference;
-use size_order::capped;
 use std::alloc::{AllocError, Global};
+use text_groups::capped;
 
 /// What has been counted so far. Of the heap whose turn it is: how many binaries it holds, of how many bytes,
 /// and by how many lines. Of all heaps: how many lines refer to binaries as a whole.

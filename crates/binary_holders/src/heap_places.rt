@@ -5,8 +5,7 @@ ghost use Rattle.dump_sections.specs.Bodies.{IsPlaceIn};
 ghost use Rattle.dump_sections.specs.Index.{sections_in};
 ghost use Rattle.binary_holders.specs.Inner.Places.{heap_place};
 
-use dump_sections::Index;
-use first_sections::FirstSections;
+use dump_sections::{FirstSections, Index};
 use process_table::Procs;
 use std::alloc::{AllocError, Global};
 

@@ -1,5 +1,5 @@
 // What is found of processes and of binaries.
-use size_order::Measured;
+use text_groups::Measured;
 
 /// What a process holds of some binaries.
 #[derive(Clone, Copy, Debug, PartialEq, Eq, Drop)]

@@ -9,11 +9,11 @@ ghost use Rattle.binary_holders.specs.Inner.Places.{numbers_in};
 
 use crate::pushing::push_row;
 use crate::targets::Binary;
+use binary_refs::{binary_number, read_size};
 use dump_io::{Dumps, ReadFault};
 use dump_sections::Index;
 use std::alloc::{AllocError, Global};
 use std::collections::BTreeMap;
-use stored_binaries::{binary_number, read_size};
 
 /// A stored binary: its number, and the place of its section among those of the index.
 #[derive(Clone, Copy, Drop)]

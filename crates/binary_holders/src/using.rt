@@ -5,9 +5,9 @@ ghost use Rattle.dump_io.specs.Dumps.{IfTold, ReadsAtMost};
 ghost use Rattle.dump_io.specs.Faults.{IsReadCauseOf};
 ghost use Rattle.dump_sections.specs.Index.{IsBuiltOver};
 ghost use Rattle.process_table.specs.Processes.{AreProcessesOver};
-ghost use Rattle.size_order.specs.Sums.{capped};
+ghost use Rattle.text_groups.specs.Sums.{capped};
 ghost use Rattle.binary_holders.specs.Held.{holdings, whole_lines};
-ghost use Rattle.size_order.specs.Sorting.{most_first};
+ghost use Rattle.text_groups.specs.Sorting.{most_first};
 ghost use Rattle.binary_holders.specs.Usage.{NamesProcess, binaries_in, fronts_length, heaps_length, heaps_of, holders_in, lines_of, pids_of, shown_use, stored_in, usage_of};
 ghost use Rattle.binary_holders.specs.Inner.Finding.{numbers_of, stored_of};
 ghost use Rattle.binary_holders.specs.Inner.Places.{numbers_in};
@@ -27,9 +27,9 @@ use dump_io::{Dumps, ReadFault};
 use dump_sections::Index;
 use heap_cells::enc_of;
 use process_table::Procs;
-use size_order::{capped, sort_most_first};
 use std::alloc::{AllocError, Global};
 use std::collections::BTreeMap;
+use text_groups::{capped, sort_most_first};
 
 /// The binaries outside the heaps, and the processes that hold them.
 #[derive(Drop)]

@@ -1,1 +1,4 @@
+pub mod BodyFacts
 pub mod EntryFacts
+pub mod Examples
+pub mod PlaceFacts

@@ -9,7 +9,7 @@ use Rattle.term_forms.specs.Forms.{HeapForm, HeapBin, RefBin, SubBin}
 use Rattle.binary_payloads.specs.ReadingPayloads.{payload_bytes}
 use Rattle.heap_cells.specs.Cells.{Cell}
 use Rattle.heap_cells.specs.HeapMap.{HeapMap, number_at, form_at}
-use Rattle.stored_binaries.specs.Ranges.{count_shown, in_dump}
+use Rattle.binary_refs.specs.Ranges.{count_shown, in_dump}
 use Rattle.binary_refs.specs.declared.entries.Entry.{Entry}
 use Rattle.binary_refs.specs.declared.entries.Preview.{Preview}
 use Rattle.binary_refs.specs.declared.entries.Preview.TheVariants.{Bytes, Unknown}

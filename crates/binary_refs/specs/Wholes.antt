@@ -16,8 +16,8 @@ use Rattle.term_forms.specs.Words.{led_of}
 use Rattle.binary_refs.specs.declared.faults.BinFault.{BinFault}
 use Rattle.binary_refs.specs.declared.faults.BinFault.TheVariants.{NoBinary, SectionTooLarge, BadBinary, Read, Memory}
 use Rattle.heap_cells.specs.Loading.{enc_of}
-use Rattle.stored_binaries.specs.Payloads.{counted_bytes}
-use Rattle.stored_binaries.specs.StoredBinaries.{binary_section}
+use Rattle.binary_refs.specs.Payloads.{counted_bytes}
+use Rattle.binary_refs.specs.StoredBinaries.{binary_section}
 
 -- the text of a body's first line; an empty body has none
 abbrev pub first_line_text : List ℕ → Option (List ℕ)

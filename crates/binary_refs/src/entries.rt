@@ -1,5 +1,5 @@
 // What is kept of a cell that refers to a binary, and what is shown of it.
-use stored_binaries::FewBytes;
+use crate::FewBytes;
 
 /// The first bytes of the range to which a cell refers, and the size that the cell states.
 #[derive(Clone, Copy)]

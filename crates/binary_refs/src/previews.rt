@@ -15,12 +15,12 @@ ghost use Rattle.binary_refs.specs.Inner.Shown.{part_shown, preview_of, IsEntryO
 
 use crate::entries::{Entry, Preview};
 use crate::faults::PreviewFault;
+use crate::{BinaryPlaces, FewBytes, Range, read_range};
 use dump_io::{Dumps, Failed};
 use dump_sections::Index;
 use heap_cells::{CellIx, Heap, Kind, Seat};
 use std::alloc::Global;
 use std::marker::Model;
-use stored_binaries::{BinaryPlaces, FewBytes, Range, read_range};
 use term_forms::shapes::Form;
 use term_forms::{Enc, payload_part};
 

@@ -4,18 +4,18 @@ ghost use Rattle.std.specs.Option.{option_copied};
 ghost use Rattle.dump_io.specs.Dumps.{IfTold};
 ghost use Rattle.dump_sections.specs.Bodies.{section_at};
 ghost use Rattle.dump_sections.specs.Index.{IsBuiltOver, sections_in};
-ghost use Rattle.stored_binaries.specs.StoredBinaries.{binary_section};
-ghost use Rattle.stored_binaries.specs.Payloads.{bytes_in};
+ghost use Rattle.binary_refs.specs.StoredBinaries.{binary_section};
+ghost use Rattle.binary_refs.specs.Payloads.{bytes_in};
 ghost use Rattle.binary_refs.specs.Wholes.{first_line_text, bytes_of_body, whole_bytes, bin_fault_of, refused, IsBinAnswerFor, IsRefusedFor, LoadsBinaryOf};
 ghost use Rattle.binary_refs.specs.Inner.Wholes.{bytes_at, LoadsBinaryAt};
 
 use crate::faults::BinFault;
+use crate::{decode_payload, first_binary};
 use dump_io::{Dumps, Limits};
 use dump_sections::{BodyFault, Index, read_body};
 use field_lines::reading::lines;
 use heap_cells::enc_of;
 use std::alloc::{AllocError, Global};
-use stored_binaries::{decode_payload, first_binary};
 use term_forms::{Enc, heap_line};
 
 // The text of a body's first line.

@@ -29,7 +29,7 @@ pub use cells::{CellIx, CellRecord, Kind, Slot, Span, Why};
 pub use firsts::{are_apart, firsts_of};
 pub use located::Located;
 pub use near::Near;
-pub use order::{number_near, number_of, ranks_of};
+pub use order::{number_of, ranks_of};
 pub use ranks::Ranks;
 pub use search::Search;
 pub use settling::{Settled, settle};

@@ -1,8 +1,8 @@
 // Where an address stands, or would stand, among pairs whose addresses ascend.
-ghost use Rattle.std.specs.Prelude.{◌≡◌, ◌<◌, ◌≤◌, ℕ, length, slice_index_or};
+ghost use Rattle.std.specs.Prelude.{◌≡◌, ◌<◌, ◌≤◌, ℕ, length};
 ghost use Rattle.std.specs.List.Sorted.{IsNonDecreasingBy};
 ghost use Rattle.cell_records.specs.Order.{IsNumberIn, IsRanking};
-ghost use Rattle.cell_records.specs.Inner.Places.{AreBelow, IsFirstFrom, IsNotBelow, IsRange};
+ghost use Rattle.cell_records.specs.Inner.Places.{AreBelow, IsFirstFrom, IsRange};
 
 use crate::ranks::Ranks;
 use std::marker::Model;

@@ -1,4 +1,4 @@
-use audit_bodies::AuditBodies;
+use dump_audit::AuditBodies;
 use dump_io::{Dumps, Limits, MemDumps};
 use section_index::build;
 use std::alloc::Global;

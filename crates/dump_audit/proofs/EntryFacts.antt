@@ -2,7 +2,7 @@
 use Rattle.std.proofs.Common.{◌≡◌, ℕ, List, ◌∙◌, ap}
 use Rattle.std.specs.Prelude.{slice_get}
 use Rattle.process_table.specs.Processes.{Process}
-use Rattle.link_entries.specs.Lists.{Links, links_at}
+use Rattle.link_graph.specs.Lists.{Links, links_at}
 use Rattle.link_graph.specs.Graph.{graph_of}
 use Rattle.dump_audit.specs.FindingNames.{kind_in, kind_at}
 use Rattle.link_graph.specs.Laws.{links-at}

@@ -10,9 +10,9 @@ use Rattle.dump_io.specs.Laws.Lists.{position-within}
 use Rattle.dump_io.specs.Numbers.{dec_number}
 use Rattle.section_rows.specs.Rows.{Kept}
 use Rattle.process_table.specs.Processes.{Process, nobody, process_at}
-use Rattle.link_entries.specs.Kinds.{Kind, Link, LinkPort, To, From}
-use Rattle.link_entries.specs.Entries.{LinkEntry}
-use Rattle.link_entries.specs.Texts.{is_local}
+use Rattle.link_graph.specs.Kinds.{Kind, Link, LinkPort, To, From}
+use Rattle.link_graph.specs.Entries.{LinkEntry}
+use Rattle.link_graph.specs.Texts.{is_local}
 use Rattle.link_graph.specs.Graph.{links_of}
 use Rattle.dump_audit.specs.Findings.{Audit, count_findings, entry_finding, entry_findings, findings, gone, is_dumped, link_findings, mail_of, one_sided, partner_finding, process_place, process_findings, queue_findings, section_offset, stated_findings}
 use Rattle.dump_audit.specs.Fitting.{Fits, HasEntry, is_link, is_to, is_from}

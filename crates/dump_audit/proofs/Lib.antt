@@ -1,2 +1,4 @@
 pub mod EntryFacts
 pub mod Fitting
+pub mod Loads
+pub mod MailPlaces

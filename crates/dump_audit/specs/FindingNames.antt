@@ -1,8 +1,8 @@
 -- What a finding names, by the places of processes and the numbers of entries in it.
 use Rattle.std.specs.Prelude.{ℕ, List, [], slice_get, Option, None, Some, unwrap_or}
 use Rattle.process_table.specs.Processes.{Process, process_at}
-use Rattle.link_entries.specs.Kinds.{Kind, To, From, Other}
-use Rattle.link_entries.specs.Entries.{LinkEntry}
+use Rattle.link_graph.specs.Kinds.{Kind, To, From, Other}
+use Rattle.link_graph.specs.Entries.{LinkEntry}
 use Rattle.link_graph.specs.Graph.{links_of}
 use Rattle.dump_audit.specs.Findings.{partner_pid}
 

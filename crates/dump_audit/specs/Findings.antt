@@ -10,10 +10,10 @@ use Rattle.dump_sections.specs.Index.{Contents, dump_state}
 use Rattle.dump_sections.specs.Bodies.{section_at}
 use Rattle.section_rows.specs.Rows.{Kept}
 use Rattle.process_table.specs.Processes.{Process, ProcessTable, process_at}
-use Rattle.link_entries.specs.Texts.{is_local}
-use Rattle.link_entries.specs.Kinds.{Kind, Link, To, ToName, From}
-use Rattle.link_entries.specs.Entries.{LinkEntry}
-use Rattle.link_entries.specs.Lists.{Links, has_kind}
+use Rattle.link_graph.specs.Texts.{is_local}
+use Rattle.link_graph.specs.Kinds.{Kind, Link, To, ToName, From}
+use Rattle.link_graph.specs.Entries.{LinkEntry}
+use Rattle.link_graph.specs.Lists.{Links, has_kind}
 use Rattle.link_graph.specs.Graph.{links_of}
 use Rattle.dump_audit.specs.declared.finding.Finding.{Finding}
 use Rattle.dump_audit.specs.declared.finding.Finding.TheVariants.{LinkOneSided, MonitorTo, MonitorFrom, Mailbox, UnreadLinks, UnreadQueue, LinkGone, ToGone, FromGone, QueueCount}

@@ -1,7 +1,7 @@
 -- Findings that fit the processes: the places and the numbers that they name are theirs.
 use Rattle.std.specs.Prelude.{◌≡◌, ℕ, ◌<◌, Bool, true, false, List, length, slice_get, IsSomeAnd}
 use Rattle.process_table.specs.Processes.{Process, process_at}
-use Rattle.link_entries.specs.Kinds.{Kind, Link, To, From}
+use Rattle.link_graph.specs.Kinds.{Kind, Link, To, From}
 use Rattle.link_graph.specs.Graph.{links_of}
 use Rattle.dump_audit.specs.declared.finding.Finding.{Finding}
 use Rattle.dump_audit.specs.declared.finding.Finding.TheVariants.{LinkOneSided, MonitorTo, MonitorFrom, Mailbox, UnreadLinks, UnreadQueue, LinkGone, ToGone, FromGone, QueueCount}

@@ -1,1 +1,3 @@
 pub mod Audited
+pub mod Mailboxes
+pub mod Places

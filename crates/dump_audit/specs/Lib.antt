@@ -1,5 +1,8 @@
+pub mod Audits
+pub mod Bodies
 pub mod FindingNames
 pub mod Findings
 pub mod Fitting
 pub mod Inner
 pub mod Laws
+pub mod Mailboxes

@@ -2,7 +2,7 @@
 ghost use Rattle.std.specs.Prelude.{◌≡◌, ◌<◌, ◌^◌, ◌&&◌, ◌++◌, true, not, length, map, All, is_some, None, Some, IfOk, OnOk};
 ghost use Rattle.std.specs.Option.{option_copied, option_map};
 ghost use Rattle.process_table.specs.Processes.{IsProcessIn, process_at};
-ghost use Rattle.link_entries.specs.Texts.{is_local};
+ghost use Rattle.link_graph.specs.Texts.{is_local};
 ghost use Rattle.link_graph.specs.Graph.{links_of, graph_of};
 ghost use Rattle.dump_audit.specs.Findings.{is_cut, is_whole, is_dumped, is_judged, link_findings, process_findings, findings, findings_in};
 ghost use Rattle.dump_audit.specs.Fitting.{Fits};

@@ -2,12 +2,14 @@
 //! mailboxes that have grown too long, and what can't be read.
 //!
 //! ```text
-//! let procs = Procs::load(alloc, &mut dumps, &index, &limits)?;
-//! let graph = Graph::build(alloc, &procs)?;
-//! let findings = audit(alloc, &index, &procs, &graph, 1000)?;
+//! let bodies = AuditBodies::load(alloc, &mut dumps, &index, true, &limits)?;
+//! let graph = Graph::build(alloc, &bodies.procs)?;
+//! let findings = audit(alloc, &index, &bodies.procs, &graph, 1000)?;
 //! ```
 //!
-//! A finding names processes by their places in the process table, and an entry by its number
+//! [`AuditBodies`] are the processes of a dump and, for a full audit, how many messages their mailboxes have.
+//! All bodies are found on the index and judged before one is read; of a mailbox only the number of its
+//! messages is kept. A finding names processes by their places in the process table, and an entry by its number
 //! in its process's list; [`named`] has the words, pids and references to write.
 #![tactic(auto)]
 
@@ -15,8 +17,12 @@ mod audited;
 mod auditing;
 mod finding;
 mod linking;
+mod loading;
+mod mailboxes;
+mod messages;
 pub mod named;
 mod queues;
 
 pub use auditing::{audit, audit_full, audit_with, is_cut};
 pub use finding::Finding;
+pub use loading::AuditBodies;

@@ -3,7 +3,7 @@ ghost use Rattle.std.specs.Prelude.{◌≡◌, ◌<◌, ◌||◌, ◌++◌, leng
 ghost use Rattle.std.specs.Option.{option_to_list};
 ghost use Rattle.process_table.specs.Processes.{process_at};
 ghost use Rattle.link_graph.specs.Graph.{links_of};
-ghost use Rattle.link_entries.specs.Seen.{shown_kind, shown_entry};
+ghost use Rattle.link_graph.specs.Seen.{shown_kind, shown_entry};
 ghost use Rattle.dump_audit.specs.Findings.{is_own_link, is_answered, one_sided, gone, entry_finding, entry_findings};
 ghost use Rattle.dump_audit.specs.Inner.Audited.{IsHolder, entries_in, held};
 

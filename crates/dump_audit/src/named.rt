@@ -1,8 +1,8 @@
 // What a finding names, by the places of processes and the numbers of entries in it.
 ghost use Rattle.std.specs.Prelude.{◌≡◌, ◌<◌, length};
 ghost use Rattle.std.specs.Option.{option_copied};
-ghost use Rattle.link_entries.specs.Lists.{links_at};
-ghost use Rattle.link_entries.specs.Seen.{shown_kind};
+ghost use Rattle.link_graph.specs.Lists.{links_at};
+ghost use Rattle.link_graph.specs.Seen.{shown_kind};
 ghost use Rattle.link_graph.specs.Graph.{graph_of};
 ghost use Rattle.dump_audit.specs.Findings.{partner_pid};
 ghost use Rattle.dump_audit.specs.FindingNames.{kind_at, partner_in, reference_in};

@@ -17,7 +17,7 @@ use Rattle.dump_sections.specs.declared.index.State.{State}
 use Rattle.term_forms.specs.Elements.{Element}
 use Rattle.term_forms.specs.Reading.{front, whole_of}
 use Rattle.root_views.specs.Roots.{BodyRoot, Content, Dist, Term, Unread, behind_colon, dist_roots, has_text, is_message, mail_line, message, message_count, pair_roots, root_lines, token}
-use Rattle.audit_bodies.specs.Mailboxes.{mail_in, mailbox_places, mails}
+use Rattle.dump_audit.specs.Mailboxes.{mail_in, mailbox_places, mails}
 use Rattle.dump_sections.specs.Bodies.{at_place}
 use Rattle.dump_audit.specs.Findings.{is_cut}
 use Rattle.json_report.specs.Laws.{AreCounts, ReadsBack}

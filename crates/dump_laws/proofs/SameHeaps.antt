@@ -19,7 +19,7 @@ use Rattle.dump_sections.specs.Bodies.{body_of, body_in, at_place}
 use Rattle.process_table.specs.Laws.{All-first_of_each}
 use Rattle.process_table.specs.Processes.{Process, ProcessTable, process_in, process_table}
 use Rattle.process_table.specs.Records.{is_process, placed_sections, process_sections, records, repeated}
-use Rattle.audit_bodies.specs.Mailboxes.{mail_in, mailbox_place, mailbox_places, mails, pids_in}
+use Rattle.dump_audit.specs.Mailboxes.{mail_in, mailbox_place, mailbox_places, mails, pids_in}
 use Rattle.root_views.specs.Roots.{message_count}
 use Rattle.dump_audit.specs.Findings.{audit_of, findings, is_cut}
 use Rattle.dump_audit.specs.Laws.{all-numbered}

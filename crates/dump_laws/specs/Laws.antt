@@ -19,7 +19,7 @@ use Rattle.dump_audit.specs.Findings.{findings}
 use Rattle.dump_redact.specs.Redacted.{blank, redacted}
 use Rattle.json_report.specs.Laws.{AreOfFile, IsReadBack}
 use Rattle.json_report.specs.Trees.{audit_tree}
-use Rattle.audit_bodies.specs.Audits.{audit_in}
+use Rattle.dump_audit.specs.Audits.{audit_in}
 use Rattle.heap_cells.specs.DumpHeaps.{heap_map, payloads_of}
 use Rattle.term_unfold.specs.DumpWalks.{walk_of}
 use Rattle.root_views.specs.Sections.{root_section}

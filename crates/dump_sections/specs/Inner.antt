@@ -2,4 +2,5 @@
 pub mod Counting
 pub mod Headers
 pub mod Marks
+pub mod Places
 pub mod Wanted

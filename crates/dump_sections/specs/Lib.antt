@@ -1,12 +1,15 @@
 pub mod Bodies
 pub mod Cuts
 pub mod FindingLaws
+pub mod Firsts
 pub mod Index
 pub mod Inner
 pub mod Laws
 pub mod Loading
 pub mod LoadingLaws
 pub mod Lookups
+pub mod PlaceLaws
+pub mod Places
 pub mod Sections
 pub mod Shown
 pub mod Tags

@@ -6,7 +6,7 @@ use Rattle.std.specs.List.{enumerate_from, filter_map, cons_option}
 use Rattle.std.specs.Option.{option_to_list}
 use Rattle.std.proofs.lemmas.List.{length-map, take_all}
 use Rattle.std.proofs.lemmas.List.Elements.{All-nil, All-cons, All-head, All-tail, All-take}
-use Rattle.size_order.specs.Sorting.{put_row, most_first}
+use Rattle.text_groups.specs.Sorting.{put_row, most_first}
 use Rattle.dump_sections.specs.Index.{Contents}
 use Rattle.section_rows.specs.Rows.{Row}
 use Rattle.process_table.specs.Processes.{Process}

@@ -1,7 +1,7 @@
 -- What is largest in a list, by a number of each place and of what is there.
 use Rattle.std.specs.Prelude.{ℕ, zero, suc, ◌<◌, List, take, All, Option, None, Some}
 use Rattle.std.specs.List.{enumerate_from, filter_map}
-use Rattle.size_order.specs.Sorting.{most_first}
+use Rattle.text_groups.specs.Sorting.{most_first}
 use Rattle.dump_triage.specs.declared.ranked.Ranked.{Ranked}
 
 -- the row of a place, if its number is known and isn't 0

@@ -3,8 +3,8 @@ ghost use Rattle.std.specs.Prelude.{◌≡◌, ◌++◌, IfOk, OnOk, Some};
 ghost use Rattle.std.specs.Option.{option_to_list};
 ghost use Rattle.dump_triage.specs.Ranking.{first_rows, ranked_row};
 
-use size_order::{Measured, sort_most_first};
 use std::alloc::AllocError;
+use text_groups::{Measured, sort_most_first};
 
 /// A process or a table, with one of its numbers.
 #[derive(Clone, Copy, Debug, PartialEq, Eq, Drop)]

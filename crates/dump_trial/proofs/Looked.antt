@@ -4,7 +4,7 @@ use Rattle.std.specs.Prelude.{IfSome}
 use Rattle.dump_sections.specs.Bodies.{section_in}
 use Rattle.dump_sections.specs.Index.{Contents, sections_in}
 use Rattle.dump_sections.specs.Lookups.{first_named}
-use Rattle.first_sections.specs.Firsts.{Firsts}
+use Rattle.dump_sections.specs.Firsts.{Firsts}
 use Rattle.dump_trial.specs.Inner.Finding.{firsts}
 
 -- the section of an id is at this place, which is one of the index

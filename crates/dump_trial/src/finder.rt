@@ -8,12 +8,11 @@ ghost use Rattle.root_views.specs.declared.kinds.RootKind.TheVariants.{Stack, Di
 ghost use Rattle.root_views.specs.Sections.{root_section};
 ghost use Rattle.dump_trial.specs.Inner.Finding.{firsts};
 
-use dump_sections::Index;
-use first_sections::FirstSections;
+use binary_refs::BinaryPlaces;
+use dump_sections::{FirstSections, Index};
 use root_views::RootKind;
 use std::alloc::{AllocError, Global};
 use std::marker::Model;
-use stored_binaries::BinaryPlaces;
 
 // The first sections with heaps.
 fn find_heaps(alloc: Global, index: &Index) -> Result<FirstSections<'_>, AllocError>

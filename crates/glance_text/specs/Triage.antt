@@ -3,7 +3,7 @@ use Rattle.std.specs.Prelude.{ℕ, ◌==◌, Bool, false, ◌&&◌, not, nat_lt,
 use Rattle.std.specs.List.{flat_map}
 use Rattle.std.specs.Option.{option_map_or}
 use Rattle.dump_io.specs.Colons.{has_colon}
-use Rattle.size_order.specs.Sums.{capped}
+use Rattle.text_groups.specs.Sums.{capped}
 use Rattle.field_lines.specs.declared.shapes.FieldAt.{FieldAt}
 use Rattle.field_lines.specs.Fields.{find_field, key_of, value_of}
 use Rattle.field_lines.specs.Lines.{TextLine, text_lines}

@@ -20,8 +20,8 @@ use field_lines::{FieldAt, Line};
 use process_table::Procs;
 use report_lines::{put_count_line, put_line};
 use report_text::{process_end, put_heading, put_processes_line, put_state, text_at, text_of};
-use size_order::capped;
 use table_sections::Rows;
+use text_groups::capped;
 
 // Whether the slogan stands in a line.
 fn is_slogan(slogan: &Option<FieldAt>, line: &Line<'_>) -> bool

@@ -12,7 +12,7 @@ use Rattle.dump_sections.specs.Sections.{Section}
 use Rattle.dump_sections.specs.declared.bodies.BodyFault.{BodyFault}
 use Rattle.binary_refs.specs.Wholes.{bytes_of_body, whole_bytes}
 use Rattle.heap_cells.specs.Loading.{enc_of}
-use Rattle.stored_binaries.specs.StoredBinaries.{binary_section}
+use Rattle.binary_refs.specs.StoredBinaries.{binary_section}
 use Rattle.dump_questions.specs.Tasks.{refusal_listed}
 use Rattle.heap_commands.specs.Terms.{bad_binary, binary_cause, malformed_cause}
 use Rattle.dump_questions.specs.Reading.{IsHalted, IsIndexed, ReadsFor, Takes}

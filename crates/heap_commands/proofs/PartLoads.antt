@@ -20,7 +20,7 @@ use Rattle.heap_lines.specs.declared.whole.HeapLines.{HeapLines}
 use Rattle.heap_parts.specs.Firsts.{IsLawful}
 use Rattle.report_lines.specs.Lines.{line_of, total_line, word_space}
 use Rattle.report_text.specs.declared.refusals.Refusal.{Refusal}
-use Rattle.root_lines.specs.Shown.{shown_roots, SomeRoots}
+use Rattle.root_views.specs.Shown.{shown_roots, SomeRoots}
 use Rattle.root_views.specs.Kinds.{roots_in}
 use Rattle.root_views.specs.Sections.{root_section}
 use Rattle.root_views.specs.declared.kinds.RootKind.{RootKind}

@@ -10,7 +10,7 @@ use Rattle.term_forms.specs.Elements.{Element}
 use Rattle.dump_sections.specs.Sections.{Section}
 use Rattle.heap_cells.specs.DumpHeaps.{heap_map}
 use Rattle.heap_cells.specs.HeapMap.{HeapMap}
-use Rattle.stored_binaries.specs.StoredBinaries.{binary_section}
+use Rattle.binary_refs.specs.StoredBinaries.{binary_section}
 use Rattle.term_unfold.specs.DumpWalks.{walk_of}
 use Rattle.term_unfold.specs.Walks.{Walk}
 use Rattle.heap_reach.specs.Rounds.{reached_by}

@@ -11,12 +11,12 @@ use Rattle.root_views.specs.Sections.{root_section}
 use Rattle.root_views.specs.declared.kinds.RootKind.TheVariants.{Dict, Mail, Stack}
 use Rattle.term_forms.specs.Elements.{Element}
 use Rattle.heap_cells.specs.HeapMap.{form_at, number_at, HeapMap}
-use Rattle.stored_binaries.specs.StoredBinaries.{binary_section}
+use Rattle.binary_refs.specs.StoredBinaries.{binary_section}
 use Rattle.binary_payloads.specs.declared.enc.Enc.{Enc}
 use Rattle.term_forms.specs.Forms.{Ext, HeapForm}
 use Rattle.etf_terms.specs.Walks.{bad_place}
 use Rattle.binary_refs.specs.Wholes.{whole_bytes}
-use Rattle.stored_binaries.specs.Payloads.{counted_bytes}
+use Rattle.binary_refs.specs.Payloads.{counted_bytes}
 use Rattle.report_text.specs.declared.refusals.Refusal.TheVariants.{BadBinary, BadExt, NoBinary, NotExt}
 use Rattle.root_views.specs.declared.kinds.RootKind.{RootKind}
 use Rattle.term_text.specs.Reach.{root_elements}

@@ -2,7 +2,7 @@
 ghost use Rattle.std.specs.Prelude.{◌≡◌, ◌<◌, length, Some, IfOk};
 ghost use Rattle.dump_sections.specs.Bodies.{section_at};
 ghost use Rattle.dump_sections.specs.Index.{sections_in};
-ghost use Rattle.stored_binaries.specs.StoredBinaries.{binary_section};
+ghost use Rattle.binary_refs.specs.StoredBinaries.{binary_section};
 ghost use Rattle.heap_commands.specs.Terms.{binary_cause};
 ghost use Rattle.binary_refs.specs.Wholes.{bytes_of_body};
 ghost use Rattle.heap_commands.specs.Terms.{malformed_cause};

@@ -1,6 +1,6 @@
 // `ext`: an external term of a process.
 ghost use Rattle.std.specs.Prelude.{◌≡◌, None, Some, IfOk};
-ghost use Rattle.stored_binaries.specs.Payloads.{bytes_in};
+ghost use Rattle.binary_refs.specs.Payloads.{bytes_in};
 ghost use Rattle.etf_terms.specs.Walks.{bad_place};
 ghost use Rattle.heap_commands.specs.Terms.{external_at, no_external};
 ghost use Rattle.dump_questions.specs.Stops.{Judges};
@@ -8,6 +8,7 @@ ghost use Rattle.heap_commands.specs.Rows.{ext_row};
 ghost use Rattle.dump_questions.specs.Runs.{Runs};
 ghost use Rattle.dump_questions.specs.Tasks.{question};
 
+use binary_refs::decode_payload;
 use dump_io::{Dumps, Sink};
 use dump_questions::status::DONE;
 use dump_questions::{Opened, Report, Stop, Unopened, find_cell, load_heap, run_report};
@@ -15,7 +16,6 @@ use etf_terms::judge;
 use heap_cells::{Heap, Seat};
 use report_text::Refusal;
 use std::alloc::{AllocError, Global};
-use stored_binaries::decode_payload;
 use term_forms::shapes::Form;
 use term_text::put_ext;
 

@@ -15,7 +15,7 @@ use Rattle.dump_io.specs.Laws.Texts.{bytes_eq-same}
 use Rattle.dump_io.specs.Lines.{cr, lf, lines_from, raw_lines, text_of}
 use Rattle.dump_io.specs.Numbers.{hex_number}
 use Rattle.field_lines.specs.Lines.{text_line}
-use Rattle.first_sections.specs.Places.{place_by}
+use Rattle.dump_sections.specs.Places.{place_by}
 use Rattle.heap_cells.specs.Places.{placed_line, placed_lines, place_with}
 use Rattle.term_forms.specs.Words.{led_of}
 use Rattle.heap_lines.specs.declared.address_sink.AddressSink.{AddressSink}

@@ -12,7 +12,7 @@ use Rattle.dump_sections.specs.Laws.{built-size}
 use Rattle.dump_sections.specs.Index.{Contents, sections_in, index_of, IsBuiltOver}
 use Rattle.dump_sections.specs.Laws.{index-is}
 use Rattle.dump_sections.specs.Sections.{Section}
-use Rattle.first_sections.specs.Places.{place_by}
+use Rattle.dump_sections.specs.Places.{place_by}
 use Rattle.binary_payloads.specs.declared.enc.Enc.{Enc}
 use Rattle.term_forms.specs.Words.{led_of}
 use Rattle.body_lines.specs.Lines.{AreWhole}

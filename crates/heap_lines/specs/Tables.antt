@@ -1,7 +1,7 @@
 -- The table of the heap lines of a body.
 use Rattle.std.specs.Prelude.{◌≡◌, ℕ, List, length}
 use Rattle.std.specs.Ordering.{nat_cmp}
-use Rattle.first_sections.specs.Places.{place_by}
+use Rattle.dump_sections.specs.Places.{place_by}
 use Rattle.heap_cells.specs.Places.{placed_lines, place_with}
 
 -- addresses with the offsets at which their lines begin, and how many heap lines there are

@@ -4,7 +4,7 @@ use Rattle.std.specs.List.{between}
 use Rattle.std.specs.Ordering.{nat_cmp}
 use Rattle.dump_io.specs.Dumps.{Now, told, size_of, IsOpen}
 use Rattle.binary_payloads.specs.declared.enc.Enc.{Enc}
-use Rattle.first_sections.specs.Places.{place_by}
+use Rattle.dump_sections.specs.Places.{place_by}
 use Rattle.heap_cells.specs.Cells.{Cell, line_cells}
 use Rattle.heap_cells.specs.DumpHeaps.{payloads_of, heap_body, literals_body}
 use Rattle.heap_lines.specs.Tables.{IsTableOf}

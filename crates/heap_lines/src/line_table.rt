@@ -4,14 +4,14 @@ ghost use Rattle.std.specs.List.{between};
 ghost use Rattle.std.specs.Ordering.{nat_cmp};
 ghost use Rattle.dump_io.specs.Dumps.{size_of, IsOpen, ReadsAtMost, IfTold};
 ghost use Rattle.dump_io.specs.Faults.{IsReadCauseOf};
-ghost use Rattle.first_sections.specs.Places.{place_by};
+ghost use Rattle.dump_sections.specs.Places.{place_by};
 ghost use Rattle.heap_cells.specs.Places.{placed_lines};
 ghost use Rattle.heap_lines.specs.Tables.{IsTableOf};
 
 use crate::address_sink::AddressSink;
 use body_lines::{ByLine, LinesFault, hear_body, make_buffer};
 use dump_io::{Dumps, ReadFault};
-use first_sections::FirstPlaces;
+use dump_sections::FirstPlaces;
 use std::alloc::Global;
 use std::marker::Model;
 use term_forms::number_is_in_front;

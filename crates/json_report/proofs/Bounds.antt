@@ -15,9 +15,9 @@ use Rattle.dump_io.specs.Lines.{lf, lines_after, lines_from, raw_lines}
 use Rattle.field_lines.specs.Fields.{find_line, has_key, key_of, place_of as line_place, value_of}
 use Rattle.field_lines.specs.Lines.{TextLine, text_line, text_lines}
 use Rattle.section_rows.specs.Rows.{Kept, field_kept, kept}
-use Rattle.link_entries.specs.Entries.{LinkEntry, cut, entries_at, entry_of, is_gap, led_by, parts_from, parts_of}
-use Rattle.link_entries.specs.Lists.{links_in}
-use Rattle.link_entries.specs.Texts.{before, behind, inside, is_local}
+use Rattle.link_graph.specs.Entries.{LinkEntry, cut, entries_at, entry_of, is_gap, led_by, parts_from, parts_of}
+use Rattle.link_graph.specs.Lists.{links_in}
+use Rattle.link_graph.specs.Texts.{before, behind, inside, is_local}
 use Rattle.link_graph.specs.Graph.{links_of}
 use Rattle.dump_sections.specs.Sections.{Section, section, sections}
 use Rattle.dump_sections.specs.Tiling.{Tile}
@@ -26,7 +26,7 @@ use Rattle.dump_audit.specs.Laws.{all-numbered}
 use Rattle.dump_io.specs.Numbers.{dec_number}
 use Rattle.dump_sections.specs.Bodies.{section_at, body_of}
 use Rattle.process_table.specs.Processes.{Process, process_at, process_in, process_table}
-use Rattle.link_entries.specs.Kinds.{Kind, Link, To, From}
+use Rattle.link_graph.specs.Kinds.{Kind, Link, To, From}
 use Rattle.dump_audit.specs.Findings.{Audit, count_findings, entry_finding, entry_findings, gone, is_dumped, mail_of, one_sided, partner_finding, process_place, process_findings, queue_findings, section_offset, stated_findings, audit_of, findings}
 use Rattle.dump_audit.specs.declared.finding.Finding.{Finding}
 use Rattle.dump_audit.specs.declared.finding.Finding.TheVariants.{UnreadLinks, UnreadQueue, Mailbox, QueueCount}

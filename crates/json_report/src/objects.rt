@@ -1,7 +1,7 @@
 // The object of a finding.
 ghost use Rattle.json_report.specs.Inner.Members.{Sends};
 ghost use Rattle.std.specs.Prelude.{◌≡◌, ◌<◌, length};
-ghost use Rattle.link_entries.specs.Seen.{shown_kind};
+ghost use Rattle.link_graph.specs.Seen.{shown_kind};
 ghost use Rattle.link_graph.specs.Graph.{graph_of};
 ghost use Rattle.dump_audit.specs.FindingNames.{partner_in, pid_at, reference_in};
 ghost use Rattle.dump_audit.specs.Fitting.{Fits};

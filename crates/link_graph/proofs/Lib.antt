@@ -1,1 +1,15 @@
+pub mod Closed
+pub mod Commas
+pub mod Counts
+pub mod CutLaws
+pub mod Cuts
+pub mod Examples
+pub mod Fronts
+pub mod KindLaws
+pub mod Laying
+pub mod Numbers
+pub mod Opening
+pub mod Sets
+pub mod Spanned
+pub mod Spans
 pub mod Taken

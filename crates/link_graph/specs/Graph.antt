@@ -2,8 +2,8 @@
 use Rattle.std.specs.Prelude.{List, Option, None, Some, map}
 use Rattle.section_rows.specs.Rows.{Kept}
 use Rattle.process_table.specs.Processes.{Process}
-use Rattle.link_entries.specs.Entries.{entries_at}
-use Rattle.link_entries.specs.Lists.{Links, no_links, links_in}
+use Rattle.link_graph.specs.Entries.{entries_at}
+use Rattle.link_graph.specs.Lists.{Links, no_links, links_in}
 
 -- the links of a process with this link list, or without one
 abbrev pub links_of : Option Kept → Links

@@ -3,7 +3,7 @@ use Rattle.std.proofs.Common.{◌≡◌, ℕ, List, Option, None, Some, refl, �
 use Rattle.std.specs.Prelude.{option_map, unwrap_or}
 use Rattle.std.proofs.lemmas.Option.{slice_get-map}
 use Rattle.process_table.specs.Processes.{Process, nobody, process_at}
-use Rattle.link_entries.specs.Lists.{no_links, links_at}
+use Rattle.link_graph.specs.Lists.{no_links, links_at}
 use Rattle.link_graph.specs.Graph.{links_of, graph_of}
 
 -- what the graph has at a place is what the process there has

@@ -1,2 +1,9 @@
+pub mod Entries
 pub mod Graph
+pub mod Inner
+pub mod Kinds
 pub mod Laws
+pub mod Lists
+pub mod Reading
+pub mod Seen
+pub mod Texts

@@ -2,12 +2,12 @@
 ghost use Rattle.std.specs.Prelude.{◌≡◌, ◌<◌, ◌++◌, [], ◌∷◌, length, slice_get, Some, IfOk};
 ghost use Rattle.section_rows.specs.Rows.{IsBoundedCell};
 ghost use Rattle.section_rows.specs.Shown.{shown_cell};
-ghost use Rattle.link_entries.specs.Kinds.{Link, To, ToName, From};
-ghost use Rattle.link_entries.specs.Lists.{links_at, has_kind};
-ghost use Rattle.link_entries.specs.Seen.{shown_kind, shown_entry};
+ghost use Rattle.link_graph.specs.Kinds.{Link, To, ToName, From};
+ghost use Rattle.link_graph.specs.Lists.{links_at, has_kind};
+ghost use Rattle.link_graph.specs.Seen.{shown_kind, shown_entry};
 ghost use Rattle.link_graph.specs.Graph.{links_of, graph_of};
 
-use link_entries::{Entry, EntryKind, EntryLists};
+use crate::{Entry, EntryKind, EntryLists};
 use process_table::{Kept, Procs};
 use std::alloc::{AllocError, Global};
 use std::marker::Model;
@@ -21,7 +21,7 @@ pub struct Graph<'a> {
 
 impl<'a> Model for Graph<'a> {
     ghost use Rattle.std.specs.Prelude.{List};
-    ghost use Rattle.link_entries.specs.Lists.{Links};
+    ghost use Rattle.link_graph.specs.Lists.{Links};
 
     ghost Value = { List Links };
 

@@ -1,6 +1,13 @@
-//! The links and monitors of a dump's processes.
+//! The links and monitors of a dump's processes: what an entry of a link list says, the entries of a
+//! list in order, and the lists of all processes with their look-up.
 //!
 //! ```text
+//! for entry in entries(b"[<0.7.0>, #Port<0.3>]")? {
+//!     if let EntryKind::Link(pid) = entry.kind {
+//!         linked.push(pid)?;
+//!     }
+//! }
+//!
 //! let graph = Graph::build(alloc, &procs)?;
 //! for n in 0..graph.count(p) {
 //!     let entry = graph.entry(p, n);
@@ -8,12 +15,25 @@
 //! let linked = graph.has_link(p, b"<0.7.0>");
 //! ```
 //!
-//! What an entry says, and how a list is cut into entries, is that of `link_entries`.
+//! What stands between the brackets is cut at each comma followed by a space. An entry that has
+//! the form of no link and no monitor is kept too, as [`EntryKind::Other`]. [`EntryLists`] keeps
+//! the entries of all lists in one pool, and reads each entry once.
 #![tactic(auto)]
 
+mod cutting;
+mod entry_lists;
 mod graph;
+mod kind_set;
+mod kinds;
+mod laws;
+mod listed;
+mod lists;
+pub mod reading;
+pub mod shapes;
+mod texts;
 
+pub use entry_lists::EntryLists;
 pub use graph::Graph;
-pub use link_entries::{
-    Entry, EntryKind, a_list_is_cut_at_gaps, an_entry_has_one_kind, is_local, reading, shapes,
-};
+pub use laws::{a_list_is_cut_at_gaps, an_entry_has_one_kind};
+pub use shapes::{Entry, EntryKind};
+pub use texts::is_local;

@@ -5,7 +5,7 @@ use Rattle.body_lines.specs.Hearing.{HearsBody}
 use Rattle.dump_io.specs.Dumps.{Now}
 use Rattle.dump_sections.specs.Bodies.{body_in, body_start}
 use Rattle.dump_sections.specs.Sections.{Section}
-use Rattle.root_lines.specs.Placed.{placed_roots}
+use Rattle.root_views.specs.Placed.{placed_roots}
 use Rattle.root_views.specs.declared.kinds.RootKind.TheVariants.{Mail}
 use Rattle.message_shapes.specs.Inner.Hearing.{Tells, TellsSection}
 use Rattle.message_shapes.specs.Inner.Telling.{roots_told}

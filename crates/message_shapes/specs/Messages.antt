@@ -6,11 +6,11 @@ use Rattle.dump_sections.specs.Sections.{Section}
 use Rattle.heap_cells.specs.Cells.{Cell}
 use Rattle.heap_cells.specs.Loading.{heap_section, literals_section}
 use Rattle.heap_skeleton.specs.Skeletons.{heap_in}
-use Rattle.root_lines.specs.Placed.{placed_roots}
+use Rattle.root_views.specs.Placed.{placed_roots}
 use Rattle.root_views.specs.Roots.{BodyRoot, is_message}
 use Rattle.root_views.specs.Sections.{root_section}
 use Rattle.root_views.specs.declared.kinds.RootKind.TheVariants.{Mail}
-use Rattle.size_order.specs.Sorting.{most_first}
+use Rattle.text_groups.specs.Sorting.{most_first}
 use Rattle.text_groups.specs.Groups.{Item, groups}
 use Rattle.text_groups.specs.Numbers.{weightless}
 use Rattle.text_groups.specs.declared.text_group.TextGroup.{TextGroup}

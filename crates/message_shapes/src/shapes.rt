@@ -21,10 +21,9 @@ use crate::tuples::Tuples;
 use dump_io::{Dumps, ReadFault};
 use dump_sections::Index;
 use heap_skeleton::Skeleton;
-use size_order::sort_most_first;
 use std::alloc::{AllocError, Global};
 use std::marker::Model;
-use text_groups::TextGroup;
+use text_groups::{TextGroup, sort_most_first};
 
 /// The messages of a mailbox with their shapes, and the groups of those that have the same. Contracts see both.
 #[derive(Drop)]

@@ -6,7 +6,7 @@ use Rattle.body_lines.specs.Hearing.{HearsBody}
 use Rattle.dump_io.specs.Dumps.{Now}
 use Rattle.dump_sections.specs.Bodies.{body_in, body_start}
 use Rattle.dump_sections.specs.Sections.{Section}
-use Rattle.root_lines.specs.Placed.{placed_roots}
+use Rattle.root_views.specs.Placed.{placed_roots}
 use Rattle.root_views.specs.Roots.{BodyRoot}
 use Rattle.root_views.specs.Sections.{root_section}
 use Rattle.root_views.specs.declared.kinds.RootKind.{RootKind}

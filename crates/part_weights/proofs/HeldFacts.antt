@@ -6,7 +6,7 @@ use Rattle.std.proofs.lemmas.List.Elements.{All-cons}
 use Rattle.cell_parts.specs.Parts.{CellPart}
 use Rattle.heap_skeleton.specs.Skeletons.{SkeletonMap}
 use Rattle.heap_weights.specs.declared.shares.Weight.{Weight}
-use Rattle.size_order.specs.Sorting.{most_first, put_row}
+use Rattle.text_groups.specs.Sorting.{most_first, put_row}
 use Rattle.part_weights.specs.Weights.{row_of}
 use Rattle.part_weights.specs.Inner.Held.{held_part, held_parts}
 use Rattle.part_weights.specs.Inner.Shown.{no_part, rows_at}

@@ -13,7 +13,7 @@ use Rattle.heap_weights.specs.Shares.{weight_below, weights_from, words_below, w
 use Rattle.heap_weights.specs.declared.holders.Holder.{Holder}
 use Rattle.heap_weights.specs.declared.shares.Shares.{Shares}
 use Rattle.heap_weights.specs.declared.shares.Weight.{Weight}
-use Rattle.size_order.specs.Sorting.{most_first}
+use Rattle.text_groups.specs.Sorting.{most_first}
 use Rattle.part_weights.specs.Weights.{cell_weighing, rows_of, weighing}
 use Rattle.part_weights.specs.Inner.Held.{held_parts, sorted_parts}
 use Rattle.part_weights.specs.Inner.Shown.{AreParts, row_at, rows_at, weighing_with}

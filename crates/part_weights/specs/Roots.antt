@@ -8,7 +8,7 @@ use Rattle.root_views.specs.Roots.{BodyRoot, term_in}
 use Rattle.root_views.specs.Sections.{root_section}
 use Rattle.root_views.specs.declared.kinds.RootKind.{RootKind}
 use Rattle.root_views.specs.declared.kinds.RootKind.TheVariants.{Stack, Dict, Mail}
-use Rattle.root_lines.specs.Placed.{placed_roots}
+use Rattle.root_views.specs.Placed.{placed_roots}
 use Rattle.cell_parts.specs.Parts.{PartElement}
 
 -- the cell to which an element leads, if one of these addresses is that of its reference

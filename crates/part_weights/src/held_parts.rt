@@ -4,8 +4,8 @@ ghost use Rattle.std.specs.Option.{option_to_list};
 ghost use Rattle.part_weights.specs.Inner.Held.{held_part, held_parts, sorted_parts};
 
 use heap_weights::Weight;
-use size_order::{Measured, sort_most_first};
 use std::alloc::{AllocError, Global};
+use text_groups::{Measured, sort_most_first};
 
 /// A part that alone holds a cell.
 #[derive(Clone, Copy)]

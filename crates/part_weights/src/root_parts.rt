@@ -16,8 +16,7 @@ use cell_parts::Parts;
 use dump_io::{Dumps, ReadFault};
 use dump_sections::Index;
 use heap_skeleton::Skeleton;
-use root_lines::{EachRoot, hear_roots};
-use root_views::{Root, RootKind, What};
+use root_views::{EachRoot, Root, RootKind, What, hear_roots};
 use std::alloc::{AllocError, Global};
 use term_forms::shapes::Elem;
 

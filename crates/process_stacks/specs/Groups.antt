@@ -2,7 +2,7 @@
 use Rattle.std.specs.Prelude.{◌≡◌, ℕ, ◌<◌, List, map, length, All}
 use Rattle.dump_sections.specs.Index.{Contents}
 use Rattle.section_rows.specs.Rows.{Row}
-use Rattle.size_order.specs.Sorting.{most_first}
+use Rattle.text_groups.specs.Sorting.{most_first}
 use Rattle.text_groups.specs.Groups.{Item, groups}
 use Rattle.text_groups.specs.declared.text_group.TextGroup.{TextGroup}
 use Rattle.process_stacks.specs.Places.{place_lines, place_of}

@@ -15,8 +15,7 @@ use crate::procs::StackProcs;
 use crate::stands::{Stand, Stands};
 use body_lines::{WholeLinesFault, hear_whole_lines};
 use dump_io::{Dumps, ReadFault};
-use dump_sections::Index;
-use first_sections::FirstSections;
+use dump_sections::{FirstSections, Index};
 use std::alloc::Global;
 
 // How many infos of a stack are its frames.

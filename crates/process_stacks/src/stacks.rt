@@ -3,7 +3,7 @@ ghost use Rattle.std.specs.Prelude.{◌≡◌, [], ◌<◌, length, slice_index_
 ghost use Rattle.dump_io.specs.Dumps.{IfTold, ReadsAtMost};
 ghost use Rattle.dump_io.specs.Faults.{IsReadCauseOf};
 ghost use Rattle.dump_sections.specs.Index.{IsBuiltOver};
-ghost use Rattle.size_order.specs.Sorting.{most_first};
+ghost use Rattle.text_groups.specs.Sorting.{most_first};
 ghost use Rattle.text_groups.specs.Groups.{groups};
 ghost use Rattle.process_stacks.specs.Groups.{found_from, FitsStacks};
 ghost use Rattle.process_stacks.specs.Rows.{stacks_length};
@@ -13,12 +13,10 @@ use crate::procs::StackProcs;
 use crate::reading::read_stands;
 use crate::stands::Stands;
 use dump_io::{Dumps, ReadFault};
-use dump_sections::Index;
-use first_sections::FirstSections;
-use size_order::sort_most_first;
+use dump_sections::{FirstSections, Index};
 use std::alloc::Global;
 use std::marker::Model;
-use text_groups::{Grouped, TextGroup, group_texts};
+use text_groups::{Grouped, TextGroup, group_texts, sort_most_first};
 
 /// The processes of a dump by the places at which they stand.
 #[derive(Drop)]

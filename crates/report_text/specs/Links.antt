@@ -3,8 +3,8 @@ use Rattle.std.specs.Prelude.{ℕ, List, [], ◌∷◌, ◌++◌, length, decima
 use Rattle.std.specs.List.{flat_map, sum_by}
 use Rattle.section_rows.specs.Rows.{Kept}
 use Rattle.process_table.specs.Processes.{Process}
-use Rattle.link_entries.specs.Kinds.{Kind, Link, LinkPort, To, ToPort, ToName, From, FromPort, Other}
-use Rattle.link_entries.specs.Entries.{LinkEntry}
+use Rattle.link_graph.specs.Kinds.{Kind, Link, LinkPort, To, ToPort, ToName, From, FromPort, Other}
+use Rattle.link_graph.specs.Entries.{LinkEntry}
 use Rattle.link_graph.specs.Graph.{links_of}
 use Rattle.report_lines.specs.Lines.{line_of, word_space, total_line}
 

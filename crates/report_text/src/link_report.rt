@@ -3,8 +3,8 @@ ghost use Rattle.std.specs.Prelude.{◌≡◌, ◌<◌, length};
 ghost use Rattle.std.specs.List.{flat_map, sum_by};
 ghost use Rattle.dump_io.specs.Sinks.{Puts};
 ghost use Rattle.process_table.specs.Shown.{shown_process};
-ghost use Rattle.link_entries.specs.Lists.{links_at};
-ghost use Rattle.link_entries.specs.Seen.{shown_entry, shown_kind};
+ghost use Rattle.link_graph.specs.Lists.{links_at};
+ghost use Rattle.link_graph.specs.Seen.{shown_entry, shown_kind};
 ghost use Rattle.link_graph.specs.Graph.{graph_of, links_of};
 ghost use Rattle.report_text.specs.Links.{kind_word, entry_line, unread_line, process_links, entry_count, links_report};
 

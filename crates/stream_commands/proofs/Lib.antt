@@ -1,3 +1,4 @@
 mod HolderLoads
 mod Redacting
+pub mod RowFacts
 mod WeightLoads

@@ -13,7 +13,7 @@ use Rattle.heap_cells.specs.DumpHeaps.{heap_map}
 use Rattle.heap_cells.specs.Loading.{heap_bodies}
 use Rattle.heap_skeleton.specs.Skeletons.{skeleton_for}
 use Rattle.part_weights.specs.Weights.{address_weighing, cell_weighing, Weighing}
-use Rattle.weight_text.specs.Weights.{weights_report}
+use Rattle.stream_commands.specs.Weights.{weights_report}
 use Rattle.dump_questions.specs.Meaning.{no_body, no_process}
 use Rattle.dump_questions.specs.Heaps.{address_cause, no_address}
 use Rattle.dump_questions.specs.Tasks.{refusal_listed}

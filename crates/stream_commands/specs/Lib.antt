@@ -1,2 +1,5 @@
 pub mod Inner
 pub mod Rows
+pub mod Shapes
+pub mod Stacks
+pub mod Weights

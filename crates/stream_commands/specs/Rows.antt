@@ -18,11 +18,11 @@ use Rattle.glance_text.specs.Holders.{binaries_report, holders_report}
 use Rattle.process_stacks.specs.Groups.{found_from, Found}
 use Rattle.process_stacks.specs.Rows.{stack_rows, stacks_length}
 use Rattle.section_rows.specs.Rows.{Row}
-use Rattle.stack_text.specs.Stacks.{stacks_report}
+use Rattle.stream_commands.specs.Stacks.{stacks_report}
 use Rattle.message_shapes.specs.Messages.{mail_shapes, ShapeMap}
-use Rattle.shape_text.specs.Shapes.{shapes_report}
+use Rattle.stream_commands.specs.Shapes.{shapes_report}
 use Rattle.part_weights.specs.Weights.{address_weighing, root_weighing, Weighing}
-use Rattle.weight_text.specs.Weights.{weights_report}
+use Rattle.stream_commands.specs.Weights.{weights_report}
 use Rattle.dump_redact.specs.Redacted.{redacted}
 use Rattle.dump_redact.specs.Refusals.{heap_sections}
 

@@ -13,13 +13,19 @@
 mod binaries;
 mod holders;
 mod redact;
+mod shape_report;
 mod shapes;
+mod stack_report;
 mod stacks;
 mod weigh;
+mod weight_report;
 
 pub use binaries::run_binaries;
 pub use holders::run_holders;
 pub use redact::run_redact;
+pub use shape_report::put_shapes;
 pub use shapes::run_shapes;
+pub use stack_report::put_stacks;
 pub use stacks::run_stacks;
 pub use weigh::{run_weigh, run_weigh_cell};
+pub use weight_report::put_weights;

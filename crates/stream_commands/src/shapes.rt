@@ -3,11 +3,11 @@ ghost use Rattle.stream_commands.specs.Rows.{shapes_row};
 ghost use Rattle.dump_questions.specs.Runs.{Runs};
 ghost use Rattle.dump_questions.specs.Tasks.{question};
 
+use crate::put_shapes;
 use dump_io::{Dumps, Sink};
 use dump_questions::status::DONE;
 use dump_questions::{Opened, Report, Stop, Unopened, find_process, run_report};
 use message_shapes::MailShapes;
-use shape_text::put_shapes;
 
 #[derive(Clone, Copy)]
 pub(crate) struct Shapes<'a> {

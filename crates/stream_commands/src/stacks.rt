@@ -5,11 +5,11 @@ ghost use Rattle.stream_commands.specs.Rows.{stacks_row};
 ghost use Rattle.dump_questions.specs.Runs.{Runs};
 ghost use Rattle.dump_questions.specs.Tasks.{question};
 
+use crate::put_stacks;
 use dump_io::{Dumps, Sink};
 use dump_questions::status::DONE;
 use dump_questions::{Opened, Report, Stop, Unopened, run_report};
 use process_stacks::{StackProcs, Stacks};
-use stack_text::put_stacks;
 
 #[derive(Clone, Copy)]
 pub(crate) struct StackGroups {

@@ -6,12 +6,12 @@ ghost use Rattle.stream_commands.specs.Rows.{weigh_cell_row, weigh_row};
 ghost use Rattle.dump_questions.specs.Runs.{Runs};
 ghost use Rattle.dump_questions.specs.Tasks.{question};
 
+use crate::put_weights;
 use dump_io::{Dumps, Sink};
 use dump_questions::status::DONE;
 use dump_questions::{Opened, Report, Stop, Unopened, find_process, run_report};
 use part_weights::Weights;
 use report_text::Refusal;
-use weight_text::put_weights;
 
 /// `weigh` of a process.
 #[derive(Clone, Copy)]

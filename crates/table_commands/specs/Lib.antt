@@ -1,3 +1,4 @@
+pub mod Findings
 pub mod Inner
 pub mod Rows
 pub mod Triage

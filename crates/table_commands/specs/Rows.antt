@@ -22,9 +22,9 @@ use Rattle.process_table.specs.Records.{record_sections}
 use Rattle.table_sections.specs.declared.kinds.TableKind.{TableKind}
 use Rattle.table_sections.specs.declared.kinds.TableKind.TheVariants.{Ets}
 use Rattle.table_sections.specs.Tables.{listed, table_of}
-use Rattle.audit_bodies.specs.Audits.{audit_in}
-use Rattle.audit_bodies.specs.Mailboxes.{audited_sections}
-use Rattle.audit_text.specs.Findings.{audit_report}
+use Rattle.dump_audit.specs.Audits.{audit_in}
+use Rattle.dump_audit.specs.Mailboxes.{audited_sections}
+use Rattle.table_commands.specs.Findings.{audit_report}
 use Rattle.dump_audit.specs.Findings.{findings, Audit}
 use Rattle.json_report.specs.Trees.{audit_tree, json_text}
 

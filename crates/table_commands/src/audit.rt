@@ -1,6 +1,6 @@
 // `audit`: what there is to find in links, monitors and message queues.
 ghost use Rattle.std.specs.Prelude.{◌≡◌, All, IfOk};
-ghost use Rattle.audit_bodies.specs.Bodies.{IsAuditable};
+ghost use Rattle.dump_audit.specs.Bodies.{IsAuditable};
 ghost use Rattle.dump_audit.specs.Findings.{findings};
 ghost use Rattle.dump_audit.specs.Fitting.{Fits};
 ghost use Rattle.link_graph.specs.Graph.{graph_of};
@@ -10,9 +10,8 @@ ghost use Rattle.table_commands.specs.Rows.{audit_row};
 ghost use Rattle.dump_questions.specs.Runs.{Runs};
 ghost use Rattle.dump_questions.specs.Tasks.{question};
 
-use audit_bodies::AuditBodies;
-use audit_text::put_findings;
-use dump_audit::{Finding, audit_with};
+use crate::put_findings;
+use dump_audit::{AuditBodies, Finding, audit_with};
 use dump_io::{Dumps, Sink};
 use dump_questions::status::{DONE, FOUND};
 use dump_questions::{Opened, Report, Stop, Unopened, or_stop, run_report};

@@ -1,14 +1,14 @@
 // `audit-json`: the findings of an audit as one JSON text.
 ghost use Rattle.std.specs.Prelude.{◌≡◌};
 ghost use Rattle.table_commands.specs.Inner.Stops.{json_end};
-ghost use Rattle.audit_bodies.specs.Bodies.{IsAuditable};
+ghost use Rattle.dump_audit.specs.Bodies.{IsAuditable};
 ghost use Rattle.table_commands.specs.Inner.Loads.{loaded_audit};
 ghost use Rattle.table_commands.specs.Rows.{audit_json_row};
 ghost use Rattle.dump_questions.specs.Runs.{Runs};
 ghost use Rattle.dump_questions.specs.Tasks.{question};
 
 use super::audit::{find, status};
-use audit_bodies::AuditBodies;
+use dump_audit::AuditBodies;
 use dump_io::{Dumps, Sink};
 use dump_questions::{Opened, Report, Stop, Unopened, or_stop, run_report};
 use json_report::{JsonFault, put_findings};

@@ -12,6 +12,7 @@
 
 mod audit;
 mod audit_json;
+mod audit_report;
 mod field;
 mod index;
 mod info;
@@ -26,6 +27,7 @@ mod trial;
 
 pub use audit::run_audit;
 pub use audit_json::run_audit_json;
+pub use audit_report::put_findings;
 pub use field::run_field;
 pub use index::run_index;
 pub use info::run_info;

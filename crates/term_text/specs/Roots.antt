@@ -5,7 +5,7 @@ use Rattle.dump_io.specs.Numbers.{hexadecimal, hex_byte}
 use Rattle.etf_terms.specs.Reading.{external_text}
 use Rattle.term_forms.specs.Elements.{Element, Ref}
 use Rattle.term_unfold.specs.Walks.{Walk, answer}
-use Rattle.root_lines.specs.Shown.{some_of}
+use Rattle.root_views.specs.Shown.{some_of}
 use Rattle.root_views.specs.Roots.{Content, Term, Info, Dist, Unread, BodyRoot}
 use Rattle.report_lines.specs.Lines.{line_of, newline, word_space, total_line}
 

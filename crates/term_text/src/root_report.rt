@@ -2,7 +2,7 @@
 ghost use Rattle.std.specs.Prelude.{◌≡◌, ◌+◌, ◌<◌, ◌^◌, [], length, All, IfOk};
 ghost use Rattle.dump_io.specs.Sinks.{Puts};
 ghost use Rattle.root_views.specs.Kinds.{roots_in};
-ghost use Rattle.root_lines.specs.Shown.{IsPlaced};
+ghost use Rattle.root_views.specs.Shown.{IsPlaced};
 ghost use Rattle.root_views.specs.Seen.{content, root};
 ghost use Rattle.term_forms.specs.Seen.{element};
 ghost use Rattle.term_unfold.specs.Walks.{judged_text};
@@ -12,8 +12,7 @@ ghost use Rattle.term_text.specs.Roots.{answer_over, content_text, root_line, ro
 use dump_io::{Failed, Piece, Sink, put_pieces, write_all};
 use heap_cells::Why;
 use report_lines::put_total_line;
-use root_lines::ShownRoots;
-use root_views::{Root, RootKind, What};
+use root_views::{Root, RootKind, ShownRoots, What};
 use term_forms::shapes::Elem;
 use term_unfold::{Verdict, Walker, why_text};
 

@@ -13,7 +13,7 @@ use Rattle.term_forms.specs.Forms.{HeapForm, RefBin, SubBin}
 use Rattle.heap_cells.specs.Cells.{Cell}
 use Rattle.heap_cells.specs.HeapMap.{number_at, form_at}
 use Rattle.term_unfold.specs.Maps.{form_at_address}
-use Rattle.stored_binaries.specs.Ranges.{in_dump}
+use Rattle.binary_refs.specs.Ranges.{in_dump}
 use Rattle.term_unfold.specs.Leaves.{leaf_text, form_text, preview_of}
 use Rattle.term_unfold.specs.Parts.{IsPartOfHeap, has_cell, gap_at, gap_of, answer_in}
 use Rattle.term_unfold.specs.Trees.{Value, Immediate, OfCell, Leaf}

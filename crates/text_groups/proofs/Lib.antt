@@ -1,3 +1,5 @@
 mod Examples
 mod NumberFacts
+mod OrderExamples
+mod SortFacts
 mod TallyFacts

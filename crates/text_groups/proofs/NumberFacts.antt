@@ -19,7 +19,7 @@ use Rattle.std.proofs.lemmas.Option.{same_Some, slice_get-get_or}
 use Rattle.std.proofs.lemmas.Slice.Eq.{bytes_eq-Decides}
 use Rattle.dump_io.specs.Laws.Lists.{same-bools, take-at}
 use Rattle.dump_io.specs.Laws.Texts.{bytes_eq-refl, bytes_eq-swap}
-use Rattle.size_order.specs.Sums.{capped}
+use Rattle.text_groups.specs.Sums.{capped}
 use Rattle.text_groups.specs.Groups.{Item, group_at, groups, has_text, item_at, members}
 use Rattle.text_groups.specs.Numbers.{number_in, weightless, HaveNumbers}
 use Rattle.text_groups.specs.Inner.Numbers.{count_in, counted_group, number_item, AreCounts, AreLeftCounts, IsNumberTree}

@@ -16,7 +16,7 @@ use Rattle.std.proofs.lemmas.Option.{slice_get-get_or, slice_get_within}
 use Rattle.std.proofs.lemmas.Slice.Eq.{bytes_eq-Decides}
 use Rattle.dump_io.specs.Laws.Lists.{enumerate-push, filter_map-one, take-at}
 use Rattle.dump_io.specs.Laws.Texts.{bytes_eq-refl, bytes_eq-swap}
-use Rattle.size_order.specs.Sums.{capped}
+use Rattle.text_groups.specs.Sums.{capped}
 use Rattle.text_groups.specs.Groups.{Item, group_at, groups, has_text, item_at, members}
 use Rattle.text_groups.specs.Inner.Counting.{AreLeft, AreTallied, tallied, tally, tally_or_none}
 use Rattle.text_groups.specs.declared.text_group.TextGroup.{TextGroup}

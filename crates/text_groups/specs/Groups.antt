@@ -2,7 +2,7 @@
 use Rattle.std.specs.Prelude.{ℕ, Bool, List, [], take, filter, length, slice_index_or, Option, None, Some, if◌then◌else◌}
 use Rattle.std.specs.List.{enumerate_from, filter_map, list_any, sum_by}
 use Rattle.std.specs.Str.{bytes_eq}
-use Rattle.size_order.specs.Sums.{capped}
+use Rattle.text_groups.specs.Sums.{capped}
 use Rattle.text_groups.specs.declared.text_group.TextGroup.{TextGroup}
 
 -- an item: its text, and its weight

@@ -1,4 +1,8 @@
-//! Items grouped by their texts.
+//! Rows in the order of their sizes, and items grouped by their texts.
+//!
+//! Several reports list what is largest: processes by the bytes that they hold,
+//! binaries by their sizes. A row states its size by [`Measured`], and
+//! [`sort_most_first`] sorts rows by it; rows of the same size stay in their order.
 //!
 //! Several reports show which things are alike: processes that stand at the same place, messages that have the
 //! same shape. What is grouped states the text and the weight of each item by [`Grouped`], and [`group_texts`] returns
@@ -23,6 +27,8 @@ mod grouped;
 mod grouping;
 mod number_groups;
 mod numbers;
+mod sorting;
+mod sums;
 mod text_group;
 
 pub use cut::cut_text;
@@ -30,4 +36,6 @@ pub use grouped::Grouped;
 pub use grouping::group_texts;
 pub use number_groups::group_numbers;
 pub use numbers::TextNumbers;
+pub use sorting::{Measured, sort_most_first};
+pub use sums::capped;
 pub use text_group::TextGroup;

@@ -1,6 +1,6 @@
 // A group of items with the same text.
 
-use size_order::Measured;
+use crate::Measured;
 
 /// The items that have one text.
 #[derive(Clone, Copy, Debug, PartialEq, Eq, Drop)]

@@ -5,7 +5,7 @@ use Rattle.binary_holders.specs.declared.counts.Counts.{Counts}
 use Rattle.binary_holders.specs.declared.rows.Holding.{Holding}
 use Rattle.binary_holders.specs.declared.targets.Binary.{Binary}
 use Rattle.binary_holders.specs.declared.texts.Reference.{Reference}
-use Rattle.size_order.specs.Sums.{capped}
+use Rattle.text_groups.specs.Sums.{capped}
 use Rattle.binary_holders.specs.Held.{bytes_held, cells_holding, holds, holders_of, whole_lines}
 use Rattle.binary_holders.specs.HeapReferences.{numbers_referred}
 use Rattle.binary_holders.specs.Inner.Places.{numbers_in}

@@ -6,7 +6,7 @@ use Rattle.dump_sections.specs.Index.{Contents}
 use Rattle.heap_cells.specs.HeapMap.{HeapMap}
 use Rattle.term_forms.specs.Forms.{HeapForm}
 use Rattle.binary_refs.specs.declared.entries.Entry.{Entry}
-use Rattle.stored_binaries.specs.declared.ranges.Range.{Range}
+use Rattle.binary_refs.specs.declared.ranges.Range.{Range}
 use Rattle.binary_refs.specs.Previews.{heap_binary, in_part, preview_entry, stating}
 
 -- what is shown of a range: from the heap binary if there is one, and otherwise from the dump

@@ -4,7 +4,7 @@ use Rattle.dump_io.specs.Dumps.{DeviceState}
 use Rattle.dump_sections.specs.Bodies.{section_at}
 use Rattle.dump_sections.specs.Index.{Contents}
 use Rattle.heap_cells.specs.Loading.{enc_of}
-use Rattle.stored_binaries.specs.StoredBinaries.{body_at}
+use Rattle.binary_refs.specs.StoredBinaries.{body_at}
 use Rattle.binary_refs.specs.declared.faults.BinFault.{BinFault}
 use Rattle.binary_refs.specs.Wholes.{bytes_of_body, LoadsBinary}
 

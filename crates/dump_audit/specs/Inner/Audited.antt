@@ -3,9 +3,9 @@ use Rattle.std.specs.Prelude.{◌≡◌, ℕ, ◌<◌, ◌^◌, Bool, true, fals
 use Rattle.dump_sections.specs.Index.{dump_state}
 use Rattle.dump_sections.specs.declared.index.State.{State}
 use Rattle.process_table.specs.Processes.{Process, IsProcessIn, process_at}
-use Rattle.link_entries.specs.Texts.{is_local}
-use Rattle.link_entries.specs.Lists.{Links}
-use Rattle.link_entries.specs.Entries.{LinkEntry}
+use Rattle.link_graph.specs.Texts.{is_local}
+use Rattle.link_graph.specs.Lists.{Links}
+use Rattle.link_graph.specs.Entries.{LinkEntry}
 use Rattle.link_graph.specs.Graph.{links_of, graph_of}
 use Rattle.dump_audit.specs.Findings.{Audit, is_judged, process_place, names_gone, section_offset}
 use Rattle.dump_audit.specs.declared.audited.Holder.{Holder}

@@ -2,7 +2,7 @@
 use Rattle.std.specs.Prelude.{◌≡◌, ℕ, ◌<◌, List, length, Option, codes, IfSome}
 use Rattle.dump_sections.specs.Bodies.{section_in}
 use Rattle.dump_sections.specs.Index.{Contents, sections_in}
-use Rattle.first_sections.specs.Firsts.{Firsts}
+use Rattle.dump_sections.specs.Firsts.{Firsts}
 use Rattle.heap_cells.specs.Loading.{literals_section}
 use Rattle.root_views.specs.Kinds.{roots_tag}
 use Rattle.root_views.specs.declared.kinds.RootKind.TheVariants.{Stack, Dict, Mail}

@@ -28,7 +28,7 @@ use Rattle.term_unfold.specs.Parts.{answer_in, has_cell}
 use Rattle.heap_cells.specs.Cells.{first_cells, Cell}
 use Rattle.heap_lines.specs.Wholes.{HasLines}
 use Rattle.heap_lines.specs.declared.whole.HeapLines.{HeapLines}
-use Rattle.root_lines.specs.Shown.{shown_roots, IsPlaced, SomeRoots}
+use Rattle.root_views.specs.Shown.{shown_roots, IsPlaced, SomeRoots}
 use Rattle.dump_io.specs.Dumps.{told, DeviceState, IfTold, Now, ReadsAtMost}
 use Rattle.dump_sections.specs.declared.bodies.BodyFault.{BodyFault}
 use Rattle.dump_sections.specs.declared.bodies.BodyFault.TheVariants.{SectionTooLarge}

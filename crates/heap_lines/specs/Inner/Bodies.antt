@@ -4,7 +4,7 @@ use Rattle.std.specs.Ordering.{nat_cmp}
 use Rattle.dump_io.specs.Dumps.{Now, size_of, IfTold}
 use Rattle.dump_sections.specs.Bodies.{body_in, body_size}
 use Rattle.dump_sections.specs.Sections.{Section}
-use Rattle.first_sections.specs.Places.{place_by}
+use Rattle.dump_sections.specs.Places.{place_by}
 use Rattle.heap_lines.specs.Wholes.{bytes_of, IsTableIn}
 use Rattle.heap_lines.specs.declared.whole.BodyLines.{BodyLines}
 use Rattle.heap_lines.specs.declared.whole.HeapLines.{HeapLines}

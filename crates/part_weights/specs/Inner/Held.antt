@@ -2,7 +2,7 @@
 use Rattle.std.specs.Prelude.{ℕ, nat_lt, List, Option, None, Some, if◌then◌else◌}
 use Rattle.std.specs.List.{enumerate_from, filter_map}
 use Rattle.heap_weights.specs.declared.shares.Weight.{Weight}
-use Rattle.size_order.specs.Sorting.{most_first}
+use Rattle.text_groups.specs.Sorting.{most_first}
 use Rattle.part_weights.specs.declared.held_parts.HeldPart.{HeldPart}
 
 -- a part with its number, if it alone holds a cell

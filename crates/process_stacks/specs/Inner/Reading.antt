@@ -2,7 +2,7 @@
 use Rattle.std.specs.Prelude.{◌≡◌, ℕ, List, ◌++◌, codes, option_map}
 use Rattle.std.specs.List.{flat_map}
 use Rattle.dump_sections.specs.Index.{Contents}
-use Rattle.first_sections.specs.Firsts.{Firsts}
+use Rattle.dump_sections.specs.Firsts.{Firsts}
 use Rattle.section_rows.specs.Rows.{Row}
 use Rattle.text_groups.specs.Cut.{cut_text}
 use Rattle.process_stacks.specs.Frames.{frames}

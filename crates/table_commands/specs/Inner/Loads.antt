@@ -10,7 +10,7 @@ use Rattle.table_sections.specs.Tables.{table_of, AreListed, IsTableOver}
 use Rattle.dump_audit.specs.Findings.{audit_of, Audit}
 use Rattle.std.specs.Option.{option_map}
 use Rattle.report_text.specs.Reports.{version_text}
-use Rattle.audit_bodies.specs.declared.loading.AuditBodies.{AuditBodies}
+use Rattle.dump_audit.specs.declared.loading.AuditBodies.{AuditBodies}
 use Rattle.dump_io.specs.Dumps.{told, Now}
 use Rattle.dump_sections.specs.Bodies.{section_in, IsBodyIn}
 use Rattle.process_table.specs.Records.{proc_places}

@@ -6,9 +6,9 @@ use Rattle.process_table.specs.Processes.{Process}
 use Rattle.binary_holders.specs.declared.rows.BinaryRow.{BinaryRow}
 use Rattle.binary_holders.specs.declared.rows.Holding.{Holding}
 use Rattle.binary_holders.specs.declared.targets.Binary.{Binary}
-use Rattle.size_order.specs.Sums.{capped}
+use Rattle.text_groups.specs.Sums.{capped}
 use Rattle.binary_holders.specs.Held.{holdings, whole_lines}
-use Rattle.size_order.specs.Sorting.{most_first}
+use Rattle.text_groups.specs.Sorting.{most_first}
 use Rattle.binary_holders.specs.Usage.{heaps_of, lines_of, rows_in}
 use Rattle.binary_holders.specs.Inner.Rows.{AreRows}
 use Rattle.binary_holders.proofs.UsingFacts.{both-ok, rows-are, same-sizes, usage-same}

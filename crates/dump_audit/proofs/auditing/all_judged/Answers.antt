@@ -4,8 +4,8 @@ use Rattle.std.proofs.lemmas.List.{take_more, map-append}
 use Rattle.std.proofs.lemmas.Option.{unwrap_or-slice_get}
 use Rattle.dump_sections.specs.Index.{dump_state}
 use Rattle.process_table.specs.Processes.{nobody, process_at}
-use Rattle.link_entries.specs.Texts.{is_local}
-use Rattle.link_entries.specs.Lists.{links_at}
+use Rattle.link_graph.specs.Texts.{is_local}
+use Rattle.link_graph.specs.Lists.{links_at}
 use Rattle.link_graph.specs.Graph.{links_of}
 use Rattle.dump_audit.specs.Findings.{is_cut, is_judged}
 use Rattle.link_graph.specs.Laws.{links-at}

@@ -4,7 +4,7 @@ use Rattle.std.proofs.lemmas.List.Sums.{sum_by_push}
 use Rattle.std.proofs.lemmas.List.{take_more}
 use Rattle.std.proofs.lemmas.Option.{unwrap_or-slice_get}
 use Rattle.process_table.specs.Processes.{process_at, Process, nobody}
-use Rattle.link_entries.specs.Lists.{links_at}
+use Rattle.link_graph.specs.Lists.{links_at}
 use Rattle.link_graph.specs.Laws.{links-at}
 use Rattle.report_text.specs.Links.{entry_count}
 use Rattle.report_text.proofs.link_report.entry_total.Goals as goal

@@ -1,5 +1,5 @@
 use Rattle.dump_io.specs.Laws.Puts.{HasPut-more, Puts-broken}
-use Rattle.link_entries.specs.Lists.{links_at}
+use Rattle.link_graph.specs.Lists.{links_at}
 use Rattle.report_text.specs.Links.{entry_line}
 use Rattle.report_text.proofs.link_report.put_entries.Goals as goal
 

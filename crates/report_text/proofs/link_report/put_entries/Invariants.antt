@@ -1,7 +1,7 @@
 use Rattle.std.proofs.Common.{take}
 use Rattle.std.specs.List.{flat_map}
 use Rattle.dump_io.specs.Sinks.{HasPut}
-use Rattle.link_entries.specs.Lists.{links_at}
+use Rattle.link_graph.specs.Lists.{links_at}
 use Rattle.report_text.specs.Links.{entry_line}
 use Rattle.report_text.proofs.link_report.put_entries.Given as goal
 

@@ -1,6 +1,6 @@
 use Rattle.std.proofs.Common.{◌+◌, ◌∙◌, ap, arith}
 use Rattle.std.proofs.lemmas.List.{length-take}
-use Rattle.size_order.specs.Sums.{capped}
+use Rattle.text_groups.specs.Sums.{capped}
 use Rattle.text_groups.proofs.TallyFacts.{counts-item, made, tallied-few}
 use Rattle.text_groups.proofs.grouping.count_item.Goals as goal
 

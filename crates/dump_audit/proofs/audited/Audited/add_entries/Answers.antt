@@ -1,6 +1,6 @@
 use Rattle.std.proofs.Common.{◌++◌, take, sym, ◌∙◌, ap, append_assoc}
 use Rattle.std.specs.Option.{option_to_list}
-use Rattle.link_entries.specs.Seen.{shown_entry}
+use Rattle.link_graph.specs.Seen.{shown_entry}
 use Rattle.dump_audit.specs.Findings.{entry_finding, entry_findings}
 use Rattle.dump_audit.specs.Inner.Audited.{entries_in, held}
 use Rattle.dump_audit.specs.Laws.{told-at}

@@ -3,7 +3,7 @@ use Rattle.std.specs.Option.{option_map, option_to_list}
 use Rattle.std.proofs.lemmas.List.{append-nil, get_or-map}
 use Rattle.std.proofs.lemmas.Option.{unwrap_or-slice_get}
 use Rattle.process_table.specs.Processes.{nobody}
-use Rattle.link_entries.specs.Texts.{is_local}
+use Rattle.link_graph.specs.Texts.{is_local}
 use Rattle.link_graph.specs.Graph.{links_of}
 use Rattle.dump_audit.specs.declared.finding.Finding.TheVariants.{UnreadLinks}
 use Rattle.dump_audit.specs.Findings.{Audit, is_judged, section_offset, entry_findings, link_findings}

@@ -3,7 +3,7 @@ use Rattle.std.specs.Option.{option_to_list}
 use Rattle.dump_sections.specs.Bodies.{body_in, body_size, body_start}
 use Rattle.dump_sections.specs.Index.{sections_in}
 use Rattle.dump_sections.specs.Sections.{Section}
-use Rattle.root_lines.specs.Shown.{shown_roots}
+use Rattle.root_views.specs.Shown.{shown_roots}
 use Rattle.root_views.specs.Kinds.{roots_in}
 use Rattle.root_views.specs.Sections.{root_section}
 use Rattle.root_views.specs.declared.kinds.RootKind.{RootKind}

@@ -11,7 +11,7 @@ use Rattle.heap_cells.specs.Loading.{heap_bodies}
 use Rattle.message_shapes.specs.Messages.{mail_shapes, ShapeMap}
 use Rattle.root_views.specs.Sections.{root_section}
 use Rattle.root_views.specs.declared.kinds.RootKind.TheVariants.{Mail}
-use Rattle.shape_text.specs.Shapes.{shapes_report}
+use Rattle.stream_commands.specs.Shapes.{shapes_report}
 use Rattle.dump_questions.specs.Meaning.{no_process}
 use Rattle.dump_questions.specs.Heaps.{never}
 use Rattle.dump_questions.specs.Reading.{Takes}

@@ -7,7 +7,7 @@ use Rattle.dump_sections.specs.Loading.{bodies_length}
 use Rattle.heap_cells.specs.Loading.{heap_bodies}
 use Rattle.part_weights.specs.Weights.{root_weighing, Weighing}
 use Rattle.root_views.specs.Sections.{root_bodies}
-use Rattle.weight_text.specs.Weights.{weights_report}
+use Rattle.stream_commands.specs.Weights.{weights_report}
 use Rattle.dump_questions.specs.Meaning.{no_process}
 use Rattle.dump_questions.specs.Heaps.{never}
 use Rattle.dump_questions.specs.Reading.{Takes}

@@ -1,4 +1,4 @@
-use Rattle.audit_text.specs.Findings.{audit_report}
+use Rattle.table_commands.specs.Findings.{audit_report}
 use Rattle.table_commands.proofs.Audits.{ReadsFor-audit}
 use Rattle.table_commands.proofs.audit.AuditReport.read.Goals as goal
 

@@ -1,4 +1,0 @@
-pub mod Audits
-pub mod Bodies
-pub mod Inner
-pub mod Mailboxes

@@ -1,9 +1,0 @@
-use Rattle.dump_io.specs.Laws.Puts.{Puts-then, Puts-stopped}
-use Rattle.audit_text.proofs.audit_report.put_findings.Goals as goal
-
-pub returns-in_err-put_total_line : goal.returns-in_err-put_total_line
-returns-in_err-put_total_line g c =
-    Puts-then c.in_ok-put_all.ensures (Puts-stopped _ c.from_residual-in_err-put_total_line.ensures.0 c.in_err-put_total_line.ensures)
-
-pub returns : goal.returns
-returns g c = Puts-then c.in_ok-put_all.ensures (Puts-then c.in_ok-put_total_line.ensures c.put_state.ensures)

@@ -1,2 +1,0 @@
-pub mod FirstFacts
-pub mod PairFacts

@@ -1,4 +1,0 @@
-pub mod Firsts
-pub mod Inner
-pub mod Laws
-pub mod Places

@@ -1,8 +1,0 @@
-use Rattle.link_entries.proofs.CutLaws.{AreCut-cut, AreCut-only}
-use Rattle.link_entries.proofs.laws.a_list_is_cut_at_gaps.Goals as goal
-
-pub returns-clause-divides : goal.returns-clause-divides
-returns-clause-divides c = AreCut-cut
-
-pub returns-clause-only : goal.returns-clause-only
-returns-clause-only c = AreCut-only

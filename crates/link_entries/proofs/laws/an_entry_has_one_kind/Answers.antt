@@ -1,5 +1,0 @@
-use Rattle.link_entries.proofs.KindLaws.{is_kind}
-use Rattle.link_entries.proofs.laws.an_entry_has_one_kind.Goals as goal
-
-pub returns : goal.returns
-returns c = is_kind

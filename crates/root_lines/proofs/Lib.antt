@@ -1,5 +1,0 @@
-mod EachFacts
-mod HearFacts
-mod KeepFacts
-mod LineFacts
-mod SomeFacts

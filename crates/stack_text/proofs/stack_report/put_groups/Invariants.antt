@@ -1,9 +1,0 @@
-use Rattle.std.proofs.Common.{take}
-use Rattle.std.specs.List.{flat_map}
-use Rattle.dump_io.specs.Sinks.{HasPut}
-use Rattle.stack_text.specs.Stacks.{group_lines}
-use Rattle.stack_text.proofs.stack_report.put_groups.Given as goal
-
--- the lines of the groups so far are written
-abbrev pub invariant-loop-group : goal.invariant-loop-group
-invariant-loop-group g l = HasPut (g.K.Sink.state l.initial.sink) (g.K.Sink.state l.sink) (flat_map (group_lines l.procs l.stacks.places) (take l.group-index l.groups))

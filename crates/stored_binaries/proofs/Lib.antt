@@ -1,3 +1,0 @@
-pub mod BodyFacts
-pub mod Examples
-pub mod PlaceFacts

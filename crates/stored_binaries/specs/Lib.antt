@@ -1,4 +1,0 @@
-pub mod Inner
-pub mod Payloads
-pub mod Ranges
-pub mod StoredBinaries
