@@ -18,7 +18,7 @@ mod counts;
 mod heap_places;
 mod heap_sink;
 mod hints;
-mod holding;
+mod holders;
 mod lines;
 mod pushing;
 mod rows;

@@ -20,17 +20,17 @@
 
 mod each_line;
 mod faults;
+mod heard_body;
 mod line_sink;
 mod pieces;
-mod reading;
 mod starts;
 mod whole_lines;
 mod whole_sink;
 
 pub use each_line::{ByLine, EachLine};
 pub use faults::{LinesFault, WholeLinesFault};
+pub use heard_body::{hear_body, make_buffer};
 pub use line_sink::LineSink;
-pub use reading::{hear_body, make_buffer};
 pub use starts::line_start;
 pub use whole_lines::hear_whole_lines;
 pub use whole_sink::WholeLineSink;

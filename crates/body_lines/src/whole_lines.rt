@@ -9,7 +9,7 @@ ghost use Rattle.body_lines.specs.WholeLines.{EndsWhole};
 ghost use Rattle.body_lines.specs.Inner.Pieces.{Takes, StopsWithin};
 
 use crate::faults::WholeLinesFault;
-use crate::reading::{PIECE, read_piece};
+use crate::heard_body::{PIECE, read_piece};
 use crate::starts::line_start;
 use crate::whole_sink::WholeLineSink;
 use dump_io::{Dumps, ReadFault};

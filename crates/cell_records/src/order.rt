@@ -87,7 +87,12 @@ pub(crate) fn stands_at<T: Located>(cells: &[T], number: u32, address: u64) -> b
 
 // The number of the cell with an address, where no two cells have the same address. The cell
 // with the number `near` is looked at first, which saves the search if it is that one.
-pub(crate) fn number_near<T: Located>(ranks: &Ranks, cells: &[T], near: u32, address: u64) -> Option<u32>
+pub(crate) fn number_near<T: Located>(
+    ranks: &Ranks,
+    cells: &[T],
+    near: u32,
+    address: u64,
+) -> Option<u32>
     requires ranked { AreRanked (map T.address cells.now) ranks.now }
     requires distinct { AreAllFirst (map T.address cells.now) }
     ensures { result ≡ number_with (map T.address cells.now) address }

@@ -2,7 +2,7 @@
 use Rattle.std.specs.Prelude.{◌≡◌, ℕ, Bool, List, length, map, Some, None, option_map, All, IfSome, if◌then◌else◌}
 use Rattle.dump_sections.specs.Index.{Contents, sections_in}
 use Rattle.process_table.specs.Processes.{IsProcessIn, process_table}
-use Rattle.dump_audit.specs.declared.loading.AuditBodies.{AuditBodies}
+use Rattle.dump_audit.specs.declared.bodies.AuditBodies.{AuditBodies}
 use Rattle.dump_audit.specs.Mailboxes.{mail_of, mailbox_places}
 
 -- the process table of these bytes, and in a full audit how many messages each process has, if that is known

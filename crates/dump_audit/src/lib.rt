@@ -15,14 +15,14 @@
 
 mod audited;
 mod auditing;
+mod bodies;
 mod finding;
 mod linking;
-mod loading;
 mod mailboxes;
 mod messages;
 pub mod named;
 mod queues;
 
 pub use auditing::{audit, audit_full, audit_with, is_cut};
+pub use bodies::AuditBodies;
 pub use finding::Finding;
-pub use loading::AuditBodies;

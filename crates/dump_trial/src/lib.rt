@@ -10,7 +10,7 @@
 //! ```
 #![tactic(auto)]
 
-mod counting;
+mod bad_roots;
 mod finder;
 mod held;
 mod only_memory;

@@ -5,7 +5,7 @@ ghost use Rattle.process_table.specs.Processes.{IsProcessIn, process_table};
 ghost use Rattle.dump_audit.specs.Findings.{findings, findings_in};
 ghost use Rattle.dump_trial.specs.Trial.{queue_limit, summary_of, tally_of, trial_of};
 
-use crate::counting::count_processes;
+use crate::bad_roots::count_processes;
 use crate::finder::Finder;
 use crate::held::Held;
 use crate::summary::Summary;

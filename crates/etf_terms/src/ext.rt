@@ -11,8 +11,8 @@ ghost use Rattle.etf_terms.specs.Held.{IsRoomFor};
 
 use crate::nesting::height;
 use crate::printing::put_term;
-use crate::reading::judge;
 use crate::stack::Stack;
+use crate::verdicts::judge;
 use dump_io::{Failed, Sink};
 use std::alloc::{AllocError, Global};
 use std::marker::Model;

@@ -14,9 +14,9 @@ mod heads;
 mod laws;
 mod nesting;
 mod printing;
-mod reading;
 mod stack;
+mod verdicts;
 
 pub use ext::{Ext, ExtFault};
 pub use laws::{bad_place_is_longest, no_proper_prefix, text_is_read, unique_reading};
-pub use reading::judge;
+pub use verdicts::judge;

@@ -11,8 +11,8 @@
 //! ```
 #![tactic(auto)]
 
-pub mod reading;
+pub mod fields;
 pub mod shapes;
 
-pub use reading::{field, find};
+pub use fields::{field, find};
 pub use shapes::{FieldAt, Line};

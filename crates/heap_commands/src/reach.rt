@@ -42,7 +42,7 @@ pub struct RootBodies {
 
 /// The heap of the process, and the bodies with its roots.
 #[derive(Drop)]
-pub struct Loaded {
+pub struct ReachedHeap {
     heap: Heap,
     roots: RootBodies,
 }
@@ -111,21 +111,21 @@ fn add_all(reach: &mut heap_reach::Reach<'_>, roots: &RootBodies)
 }
 
 impl Report for Reach<'_> {
-    type Loaded = Loaded;
+    type Loaded = ReachedHeap;
 
     ghost means = { λ c. reach_row c.pid.now };
 
     ghost seen = { λ _ _ loaded. seen_reach loaded };
 
-    fn read<D: Dumps>(&self, at: &Opened<'_>, dumps: &mut D) -> Result<Loaded, Stop> {
+    fn read<D: Dumps>(&self, at: &Opened<'_>, dumps: &mut D) -> Result<ReachedHeap, Stop> {
         let places = root_places(at, self.pid);
         let heap = load_behind(at, dumps, self.pid, large_roots(at, places))?;
         let roots = read_roots(at, dumps, places)?;
-        Ok(Loaded { heap, roots })
+        Ok(ReachedHeap { heap, roots })
     }
 
-    fn put<K: Sink>(&self, at: &Opened<'_>, loaded: &Loaded, out: &mut K) -> Result<u8, Stop> {
-        let Loaded { heap, roots } = loaded;
+    fn put<K: Sink>(&self, at: &Opened<'_>, loaded: &ReachedHeap, out: &mut K) -> Result<u8, Stop> {
+        let ReachedHeap { heap, roots } = loaded;
         let mut reach = heap_reach::Reach::new(at.alloc, heap)?;
         add_all(&mut reach, roots);
         let unreached = reach.unreached(at.alloc)?;

@@ -26,14 +26,14 @@ pub(crate) struct Roots<'a> {
 
 /// The body with the roots, and the heap to which they refer.
 #[derive(Drop)]
-pub struct Loaded {
+pub struct HeapAndRoots {
     body: Body,
     heap: Heap,
     previews: Previews,
 }
 
 impl Report for Roots<'_> {
-    type Loaded = Loaded;
+    type Loaded = HeapAndRoots;
 
     ghost means = { λ c. roots_row c.kind c.pid.now c.nodes c.marked };
 
@@ -44,19 +44,24 @@ impl Report for Roots<'_> {
     ghost fits = { λ _ _ loaded.
         HasPlaces loaded.body × AreFor loaded.heap.cells loaded.previews };
 
-    fn read<D: Dumps>(&self, at: &Opened<'_>, dumps: &mut D) -> Result<Loaded, Stop> {
+    fn read<D: Dumps>(&self, at: &Opened<'_>, dumps: &mut D) -> Result<HeapAndRoots, Stop> {
         let place = at.index.first(self.kind.tag(), Some(self.pid));
         let heap = load_heap(at, dumps, self.pid, place)?;
         let previews = Previews::load(at.alloc, dumps, at.index, &heap)?;
         let body = read_found(at, dumps, place)?;
-        Ok(Loaded {
+        Ok(HeapAndRoots {
             body,
             heap,
             previews,
         })
     }
 
-    fn put<K: Sink>(&self, at: &Opened<'_>, loaded: &Loaded, out: &mut K) -> Result<u8, Stop> {
+    fn put<K: Sink>(
+        &self,
+        at: &Opened<'_>,
+        loaded: &HeapAndRoots,
+        out: &mut K,
+    ) -> Result<u8, Stop> {
         let mut walker = Walker::new(at.alloc, &loaded.heap, &loaded.previews)?;
         let Body { bytes, base } = &loaded.body;
         put_roots(

@@ -24,13 +24,13 @@ pub(crate) struct Term<'a> {
 
 /// The heap in which the term is.
 #[derive(Drop)]
-pub struct Loaded {
+pub struct HeapAndPreviews {
     heap: Heap,
     previews: Previews,
 }
 
 impl Report for Term<'_> {
-    type Loaded = Loaded;
+    type Loaded = HeapAndPreviews;
 
     ghost means = { λ c. term_row c.pid.now c.addr c.nodes c.marked };
 
@@ -40,14 +40,19 @@ impl Report for Term<'_> {
 
     ghost fits = { λ _ _ loaded. AreFor loaded.heap.cells loaded.previews };
 
-    fn read<D: Dumps>(&self, at: &Opened<'_>, dumps: &mut D) -> Result<Loaded, Stop> {
+    fn read<D: Dumps>(&self, at: &Opened<'_>, dumps: &mut D) -> Result<HeapAndPreviews, Stop> {
         let heap = load_heap(at, dumps, self.pid, None)?;
         find_cell(&heap, self.addr)?;
         let previews = Previews::load(at.alloc, dumps, at.index, &heap)?;
-        Ok(Loaded { heap, previews })
+        Ok(HeapAndPreviews { heap, previews })
     }
 
-    fn put<K: Sink>(&self, at: &Opened<'_>, loaded: &Loaded, out: &mut K) -> Result<u8, Stop> {
+    fn put<K: Sink>(
+        &self,
+        at: &Opened<'_>,
+        loaded: &HeapAndPreviews,
+        out: &mut K,
+    ) -> Result<u8, Stop> {
         let mut walker = Walker::new(at.alloc, &loaded.heap, &loaded.previews)?;
         put_term(out, &mut walker, self.addr, self.nodes, self.marked)?;
         Ok(DONE)

@@ -20,12 +20,12 @@
 //! the entries of all lists in one pool, and reads each entry once.
 #![tactic(auto)]
 
-mod cutting;
 mod entry_lists;
 mod graph;
 mod kind_set;
 mod kinds;
 mod laws;
+mod list_parts;
 mod listed;
 mod lists;
 pub mod reading;

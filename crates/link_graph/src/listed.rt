@@ -7,8 +7,8 @@ ghost use Rattle.link_graph.specs.Seen.{shown_kind, shown_entry};
 ghost use Rattle.link_graph.specs.Inner.Cutting.{shown_piece};
 ghost use Rattle.link_graph.specs.Inner.Layouts.{layout_of, partner_in, reference_in};
 
-use crate::cutting::Piece;
 use crate::kinds::kind;
+use crate::list_parts::Piece;
 use crate::shapes::{Entry, EntryKind};
 use std::marker::Model;
 

@@ -6,8 +6,8 @@ ghost use Rattle.link_graph.specs.Seen.{shown_kind, shown_entry};
 ghost use Rattle.link_graph.specs.Inner.Sets.{AreKindsOf};
 ghost use Rattle.link_graph.specs.Inner.Spans.{KeepsKinds, lists_in, AreSpans, HasGained};
 
-use crate::cutting::Parts;
 use crate::kind_set::KindSet;
+use crate::list_parts::Parts;
 use crate::listed::Listed;
 use crate::shapes::{Entry, EntryKind};
 use std::alloc::{AllocError, Global};

@@ -5,8 +5,8 @@ ghost use Rattle.std.specs.Iterator.{YieldsFirstBy, item_count};
 ghost use Rattle.link_graph.specs.Entries.{entries_at};
 ghost use Rattle.link_graph.specs.Seen.{shown_entry};
 
-use crate::cutting::Parts;
 use crate::kinds::kind;
+use crate::list_parts::Parts;
 use std::marker::Model;
 
 /// What an entry of a link list says. The slices are parts of the list's text.

@@ -9,7 +9,7 @@ use Rattle.root_views.specs.Placed.{placed_roots}
 use Rattle.root_views.specs.declared.kinds.RootKind.TheVariants.{Mail}
 use Rattle.message_shapes.specs.Inner.Hearing.{Tells, TellsSection}
 use Rattle.message_shapes.specs.Inner.Telling.{roots_told}
-use Rattle.message_shapes.specs.declared.hearing.MailSink.{MailSink}
+use Rattle.message_shapes.specs.declared.mail_sink.MailSink.{MailSink}
 
 -- no root was heard
 Tells-none : (sink : MailSink) → Tells sink sink []

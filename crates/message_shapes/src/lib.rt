@@ -21,7 +21,7 @@ mod cell_set;
 mod cell_texts;
 mod distinct_texts;
 mod heard;
-mod hearing;
+mod mail_sink;
 mod messages;
 mod needed;
 mod shape_numbers;

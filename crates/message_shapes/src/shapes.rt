@@ -14,7 +14,7 @@ ghost use Rattle.message_shapes.specs.Inner.Telling.{roots_told, AreCells};
 
 use crate::cell_texts::{inner_texts, subject_texts};
 use crate::heard::Heard;
-use crate::hearing::hear_mail;
+use crate::mail_sink::hear_mail;
 use crate::messages::Messages;
 use crate::needed::{needed_cells, subject_cells};
 use crate::tuples::Tuples;

@@ -18,7 +18,7 @@ mod frame_sink;
 mod frames;
 mod place_lines;
 mod procs;
-mod reading;
+mod read_stands;
 mod stacks;
 mod stands;
 

@@ -10,7 +10,7 @@ ghost use Rattle.process_stacks.specs.Rows.{stacks_length};
 ghost use Rattle.process_stacks.specs.Inner.Reading.{AreStacksOf};
 
 use crate::procs::StackProcs;
-use crate::reading::read_stands;
+use crate::read_stands::read_stands;
 use crate::stands::Stands;
 use dump_io::{Dumps, ReadFault};
 use dump_sections::{FirstSections, Index};

@@ -7,7 +7,7 @@ use Rattle.std.proofs.lemmas.List.{append-nil, map-append}
 use Rattle.std.proofs.lemmas.List.Sums.{length-filter, count_by-le-length}
 use Rattle.dump_sections.specs.Sections.{Section}
 use Rattle.process_table.specs.declared.pids.PidPlace.{PidPlace}
-use Rattle.process_table.specs.declared.finding.Found.{Found}
+use Rattle.process_table.specs.declared.first_by_pid.Found.{Found}
 use Rattle.process_table.specs.Records.{PlacedSection, is_process, named_place, pid_of, process_sections, first_of_each}
 use Rattle.process_table.specs.Inner.Finding.{named_places, has_pid, pid_in, AreFound}
 use Rattle.process_table.proofs.Positions.{some-position}

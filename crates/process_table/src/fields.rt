@@ -8,7 +8,7 @@ ghost use Rattle.section_rows.specs.Shown.{shown_cell};
 ghost use Rattle.process_table.specs.Fields.{field_table};
 ghost use Rattle.process_table.specs.Records.{record_sections};
 
-use crate::loading::load_rows;
+use crate::columns::load_rows;
 use dump_io::{Dumps, Limits};
 use dump_sections::{BodyFault, Index};
 use section_rows::{Column, Kept, SectionRows};

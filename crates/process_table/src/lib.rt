@@ -15,16 +15,16 @@
 //! ```
 #![tactic(auto)]
 
+mod columns;
 mod fields;
-mod finding;
+mod first_by_pid;
 mod hints;
-mod loading;
 mod pids;
 mod proc_sections;
 mod procs;
 
+pub use columns::load_rows;
 pub use fields::FieldTable;
-pub use loading::load_rows;
 pub use proc_sections::ProcSections;
 pub use procs::{Proc, Procs};
 pub use section_rows::Kept;

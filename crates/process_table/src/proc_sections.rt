@@ -6,7 +6,7 @@ ghost use Rattle.dump_sections.specs.Loading.{large_fault};
 ghost use Rattle.process_table.specs.Records.{proc_places, record_sections};
 ghost use Rattle.process_table.specs.Inner.Finding.{named_places, sections_of, AreOrdered};
 
-use crate::finding::find;
+use crate::first_by_pid::find;
 use crate::pids::{PidOrder, PidPlace};
 use dump_io::Limits;
 use dump_sections::{Index, LargeSection, large};

@@ -11,8 +11,8 @@ ghost use Rattle.process_table.specs.Shown.{shown_process};
 ghost use Rattle.process_table.specs.Inner.Finding.{named_places};
 ghost use Rattle.process_table.specs.Inner.Joined.{all_joined, AreJoined};
 
+use crate::columns::load_columns;
 use crate::hints::Hints;
-use crate::loading::load_columns;
 use crate::pids::{PidOrder, PidPlace, number_of};
 use crate::proc_sections::{ProcSections, place_at};
 use dump_io::{Dumps, Limits};

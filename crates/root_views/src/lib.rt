@@ -27,27 +27,27 @@
 //! ```
 #![tactic(auto)]
 
-mod counting;
 mod dictionaries;
 mod each_root;
-mod hearing;
-mod keeping;
 mod kept_roots;
 mod kinds;
 mod mailboxes;
 mod mails;
+mod message_count;
 mod root_count;
 mod root_sink;
+mod root_texts;
 mod roots;
+mod roots_of_lines;
 mod shown_roots;
 mod stacks;
 mod texts;
 
-pub use counting::messages;
 pub use dictionaries::{DictRoots, dict};
 pub use each_root::{EachRoot, hear_roots};
 pub use kinds::{RootKind, Roots};
 pub use mailboxes::{MailRoots, mail};
+pub use message_count::messages;
 pub use roots::{Root, What};
 pub use shown_roots::ShownRoots;
 pub use stacks::{StackRoots, stack};

@@ -1,8 +1,8 @@
 // What hears the lines of a body for its roots.
 ghost use Rattle.root_views.specs.Inner.Hearing.{IsReady, TakesLines};
 
-use crate::hearing::hear_run;
 use crate::kept_roots::KeptRoots;
+use crate::roots_of_lines::hear_run;
 use body_lines::WholeLineSink;
 use std::alloc::AllocError;
 

@@ -8,9 +8,9 @@ ghost use Rattle.root_views.specs.Shown.{shown_roots, IsPlaced};
 ghost use Rattle.root_views.specs.Placed.{placed_roots};
 ghost use Rattle.root_views.specs.Inner.Hearing.{IsReady, Took};
 
-use crate::keeping::kept_root;
 use crate::kept_roots::KeptRoots;
 use crate::root_sink::RootSink;
+use crate::root_texts::kept_root;
 use crate::{Root, RootKind};
 use body_lines::hear_whole_lines;
 use dump_io::{Dumps, ReadFault};

@@ -12,7 +12,7 @@
 #![tactic(auto)]
 
 mod columns;
-mod loading;
+mod loaded_rows;
 mod one_pass;
 mod rows;
 mod store;

@@ -6,7 +6,7 @@ ghost use Rattle.section_rows.specs.Rows.{row_at, AreRowsOf, AreEven, AreBounded
 ghost use Rattle.section_rows.specs.Shown.{shown_cell, shown_column};
 
 use crate::columns::{Column, Kept};
-use crate::loading::load_rows;
+use crate::loaded_rows::load_rows;
 use crate::store::Store;
 use dump_io::{Dumps, Limits};
 use dump_sections::{BodyFault, Index, large};

@@ -31,7 +31,7 @@ pub struct Node {
 
 /// What was loaded of a node, and what its processes hold.
 #[derive(Drop)]
-pub struct Loaded {
+pub struct NodeAndUses {
     node: Node,
     found: BinaryUse,
 }
@@ -95,7 +95,7 @@ fn load_node<D: Dumps>(at: &Opened<'_>, dumps: &mut D) -> Result<Node, BodyFault
 }
 
 impl Report for Binaries {
-    type Loaded = Loaded;
+    type Loaded = NodeAndUses;
 
     ghost means = { λ _. binaries_row };
 
@@ -103,14 +103,14 @@ impl Report for Binaries {
 
     ghost fits = { λ _ index loaded. AreNamed index loaded.node.procs loaded.found.held.items };
 
-    fn read<D: Dumps>(&self, at: &Opened<'_>, dumps: &mut D) -> Result<Loaded, Stop> {
+    fn read<D: Dumps>(&self, at: &Opened<'_>, dumps: &mut D) -> Result<NodeAndUses, Stop> {
         let node = load_node(at, dumps)?;
         let found = binary_use(at.alloc, dumps, at.index, &node.procs)?;
-        Ok(Loaded { node, found })
+        Ok(NodeAndUses { node, found })
     }
 
-    fn put<K: Sink>(&self, at: &Opened<'_>, loaded: &Loaded, out: &mut K) -> Result<u8, Stop> {
-        let Loaded { node, found } = loaded;
+    fn put<K: Sink>(&self, at: &Opened<'_>, loaded: &NodeAndUses, out: &mut K) -> Result<u8, Stop> {
+        let NodeAndUses { node, found } = loaded;
         put_binaries(
             out,
             at.index,

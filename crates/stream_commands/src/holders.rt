@@ -18,13 +18,13 @@ pub(crate) struct Holders {
 
 /// The processes, and those that hold the binary with the address.
 #[derive(Drop)]
-pub struct Loaded {
+pub struct ProcsAndHoldings {
     procs: Procs,
     held: Vec<Holding>,
 }
 
 impl Report for Holders {
-    type Loaded = Loaded;
+    type Loaded = ProcsAndHoldings;
 
     ghost means = { λ c. holders_row c.addr };
 
@@ -32,13 +32,18 @@ impl Report for Holders {
 
     ghost fits = { λ _ index loaded. AreNamed index loaded.procs loaded.held.items };
 
-    fn read<D: Dumps>(&self, at: &Opened<'_>, dumps: &mut D) -> Result<Loaded, Stop> {
+    fn read<D: Dumps>(&self, at: &Opened<'_>, dumps: &mut D) -> Result<ProcsAndHoldings, Stop> {
         let procs = Procs::load(at.alloc, dumps, at.index, at.limits)?;
         let held = holders(at.alloc, dumps, at.index, &procs, self.addr)?;
-        Ok(Loaded { procs, held })
+        Ok(ProcsAndHoldings { procs, held })
     }
 
-    fn put<K: Sink>(&self, at: &Opened<'_>, loaded: &Loaded, out: &mut K) -> Result<u8, Stop> {
+    fn put<K: Sink>(
+        &self,
+        at: &Opened<'_>,
+        loaded: &ProcsAndHoldings,
+        out: &mut K,
+    ) -> Result<u8, Stop> {
         put_holders(out, at.index, &loaded.procs, loaded.held.as_slice())?;
         Ok(DONE)
     }

@@ -18,13 +18,13 @@ pub(crate) struct StackGroups {
 
 /// The processes, and their groups by the places at which they stand.
 #[derive(Drop)]
-pub struct Loaded {
+pub struct ProcsAndStacks {
     procs: StackProcs,
     stacks: Stacks,
 }
 
 impl Report for StackGroups {
-    type Loaded = Loaded;
+    type Loaded = ProcsAndStacks;
 
     ghost means = { λ c. stacks_row c.count };
 
@@ -32,13 +32,18 @@ impl Report for StackGroups {
 
     ghost fits = { λ _ _ loaded. FitsStacks (length loaded.procs) loaded.stacks };
 
-    fn read<D: Dumps>(&self, at: &Opened<'_>, dumps: &mut D) -> Result<Loaded, Stop> {
+    fn read<D: Dumps>(&self, at: &Opened<'_>, dumps: &mut D) -> Result<ProcsAndStacks, Stop> {
         let procs = StackProcs::load(at.alloc, dumps, at.index, at.limits)?;
         let stacks = Stacks::gather(at.alloc, dumps, at.index, &procs)?;
-        Ok(Loaded { procs, stacks })
+        Ok(ProcsAndStacks { procs, stacks })
     }
 
-    fn put<K: Sink>(&self, _at: &Opened<'_>, loaded: &Loaded, out: &mut K) -> Result<u8, Stop> {
+    fn put<K: Sink>(
+        &self,
+        _at: &Opened<'_>,
+        loaded: &ProcsAndStacks,
+        out: &mut K,
+    ) -> Result<u8, Stop> {
         put_stacks(out, &loaded.procs, &loaded.stacks, u64::from(self.count))?;
         Ok(DONE)
     }

@@ -10,7 +10,7 @@ use Rattle.dump_sections.specs.declared.bodies.BodyFault.{BodyFault}
 use Rattle.process_table.specs.Processes.{process_table}
 use Rattle.dump_audit.specs.Findings.{audit_of, Audit}
 use Rattle.dump_audit.specs.Audits.{audit_in}
-use Rattle.dump_audit.specs.declared.loading.AuditBodies.{AuditBodies}
+use Rattle.dump_audit.specs.declared.bodies.AuditBodies.{AuditBodies}
 use Rattle.dump_audit.specs.Bodies.{AreBodiesOf}
 use Rattle.dump_audit.specs.Mailboxes.{audited_sections, mail_in, mailbox_places}
 use Rattle.table_commands.specs.Rows.{of_audit}

@@ -20,7 +20,7 @@ use Rattle.dump_questions.specs.Reading.{IsIndexed}
 use Rattle.table_commands.specs.Rows.{told_in, triage_sections}
 use Rattle.table_commands.specs.Inner.Loads.{seen_triage, AreFound, HoldsBodies}
 use Rattle.table_commands.specs.declared.triage.Places.{Places}
-use Rattle.table_commands.specs.declared.triage.Loaded.{Loaded}
+use Rattle.table_commands.specs.declared.triage.NodeTables.{NodeTables}
 
 -- ---- the bodies of a triage
 
@@ -94,13 +94,13 @@ module _ {T U : Type 0} (ss : List Section) {a b : DeviceState} (fault : BodyFau
 -- ---- what is told of these bodies
 
 -- what was read of them is what the dump tells
-triage-told : (limits : Numbers) (index : Contents) (now : Now) (loaded : Loaded) → HoldsBodies index now loaded → (bytes : List ℕ) → IsIndexed bytes limits index now
+triage-told : (limits : Numbers) (index : Contents) (now : Now) (loaded : NodeTables) → HoldsBodies index now loaded → (bytes : List ℕ) → IsIndexed bytes limits index now
     → seen_triage index loaded ≡ told_in bytes
 triage-told limits index now loaded holds bytes all =
     let held = subst (λ n. HoldsBodies index n loaded) all.opened holds in rw (held.first, held.memory, held.procs bytes refl, held.tables bytes refl, all.is) refl
 
 -- so it is if anything was read
-pub told-loaded : (limits : Numbers) (index : Contents) (now : Now) (result : Result Loaded BodyFault) → IfOk result (HoldsBodies index now)
+pub told-loaded : (limits : Numbers) (index : Contents) (now : Now) (result : Result NodeTables BodyFault) → IfOk result (HoldsBodies index now)
     → IfOk result (λ loaded. (bytes : List ℕ) → IsIndexed bytes limits index now → seen_triage index loaded ≡ told_in bytes)
 told-loaded limits index now (Ok loaded) holds = λ bytes all. triage-told limits index now loaded holds bytes all
 told-loaded limits index now (Err fault) holds = tt

@@ -33,7 +33,7 @@ pub struct Places {
 
 /// The bodies of the first section and of the first one on memory, the processes and the ETS tables.
 #[derive(Drop)]
-pub struct Loaded {
+pub struct NodeTables {
     first: Body,
     memory: Body,
     procs: Procs,
@@ -73,7 +73,7 @@ fn read_bodies<D: Dumps>(
     at: &Opened<'_>,
     dumps: &mut D,
     places: Places,
-) -> Result<Loaded, BodyFault>
+) -> Result<NodeTables, BodyFault>
     requires over { IsBuiltOver (D.state dumps.old).now at.now.index.now }
     requires some { 1 ≤ length at.now.index.now.headers }
     requires places { AreFound at.now.index.now places }
@@ -88,7 +88,7 @@ fn read_bodies<D: Dumps>(
     let memory = read_found(at, dumps, places.memory)?;
     let procs = Procs::read(at.alloc, dumps, at.index, places.procs, at.limits)?;
     let tables = Rows::read(at.alloc, dumps, at.index, places.tables, at.limits)?;
-    Ok(Loaded {
+    Ok(NodeTables {
         first,
         memory,
         procs,
@@ -101,7 +101,7 @@ fn load_bodies<D: Dumps>(
     at: &Opened<'_>,
     dumps: &mut D,
     places: Places,
-) -> Result<Loaded, BodyFault>
+) -> Result<NodeTables, BodyFault>
     requires over { IsBuiltOver (D.state dumps.old).now at.now.index.now }
     requires some { 1 ≤ length at.now.index.now.headers }
     requires places { AreFound at.now.index.now places }
@@ -117,7 +117,7 @@ fn load_bodies<D: Dumps>(
 }
 
 impl Report for Triage {
-    type Loaded = Loaded;
+    type Loaded = NodeTables;
 
     ghost means = { λ c. triage_row c.count };
 
@@ -125,13 +125,13 @@ impl Report for Triage {
 
     ghost fits = { λ _ index loaded. Fits index loaded };
 
-    fn read<D: Dumps>(&self, at: &Opened<'_>, dumps: &mut D) -> Result<Loaded, Stop> {
+    fn read<D: Dumps>(&self, at: &Opened<'_>, dumps: &mut D) -> Result<NodeTables, Stop> {
         let places = find_places(at)?;
         or_stop(load_bodies(at, dumps, places))
     }
 
-    fn put<K: Sink>(&self, at: &Opened<'_>, loaded: &Loaded, out: &mut K) -> Result<u8, Stop> {
-        let Loaded {
+    fn put<K: Sink>(&self, at: &Opened<'_>, loaded: &NodeTables, out: &mut K) -> Result<u8, Stop> {
+        let NodeTables {
             first,
             memory,
             procs,

@@ -10,8 +10,8 @@ ghost use Rattle.heap_skeleton.specs.Skeletons.{skeleton_for};
 ghost use Rattle.term_forms.specs.Seen.{element};
 ghost use Rattle.tuple_fronts.specs.Fronts.{fronts_for};
 
+use crate::front_lines::keep_fronts;
 use crate::kept::Kept;
-use crate::loading::keep_fronts;
 use dump_io::{Dumps, ReadFault};
 use dump_sections::Index;
 use heap_skeleton::Skeleton;

@@ -14,12 +14,12 @@
 //! ```
 #![tactic(auto)]
 
+mod first_elements;
+mod front_lines;
 mod front_sink;
 mod fronts;
 mod kept;
-mod loading;
-mod reading;
 mod runs;
 
+pub use first_elements::MOST_ELEMENTS;
 pub use fronts::TupleFronts;
-pub use reading::MOST_ELEMENTS;

@@ -4,8 +4,8 @@ ghost use Rattle.body_lines.specs.Lines.{lines_at};
 ghost use Rattle.tuple_fronts.specs.Inner.Kept.{Keeps};
 ghost use Rattle.tuple_fronts.specs.Inner.Hearing.{HasCells, KeepsNext, known_of, left_behind};
 
+use crate::first_elements::keep_line;
 use crate::kept::Kept;
-use crate::reading::keep_line;
 use dump_io::{bytes_from, line_len};
 use heap_skeleton::Skeleton;
 use std::alloc::AllocError;

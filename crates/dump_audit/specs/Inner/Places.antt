@@ -6,7 +6,7 @@ use Rattle.dump_sections.specs.Loading.{sections_at}
 use Rattle.process_table.specs.Records.{proc_places, record_sections}
 use Rattle.dump_audit.specs.Mailboxes.{mailbox_places, mailboxes_at}
 use Rattle.dump_sections.specs.Bodies.{IsPlaceIn}
-use Rattle.dump_audit.specs.declared.loading.BodyPlaces.{BodyPlaces}
+use Rattle.dump_audit.specs.declared.bodies.BodyPlaces.{BodyPlaces}
 
 -- the sections whose bodies an audit loads: those of the processes, and the mailboxes that were found
 abbrev pub sections_found : Contents → BodyPlaces → List Section

@@ -34,15 +34,15 @@ use Rattle.dump_sections.specs.declared.bodies.BodyFault.{BodyFault}
 use Rattle.dump_sections.specs.declared.bodies.BodyFault.TheVariants.{SectionTooLarge}
 use Rattle.dump_sections.specs.declared.bodies.LargeSection.{LargeSection}
 use Rattle.heap_commands.specs.declared.peek.HeapPart.{HeapPart}
-use Rattle.heap_commands.specs.declared.roots.Loaded.{Loaded as RootsLoaded}
+use Rattle.heap_commands.specs.declared.roots.HeapAndRoots.{HeapAndRoots}
 use Rattle.heap_commands.specs.declared.reach.RootPlaces.{RootPlaces}
 use Rattle.heap_commands.specs.declared.reach.RootBodies.{RootBodies}
-use Rattle.heap_commands.specs.declared.reach.Loaded.{Loaded as ReachLoaded}
+use Rattle.heap_commands.specs.declared.reach.ReachedHeap.{ReachedHeap}
 use Rattle.dump_questions.specs.Reading.{IsIndexed, StopsFor}
 use Rattle.dump_questions.specs.declared.stop.Stop.{Stop}
 
 -- the body with the roots, and what a walker goes over from it
-abbrev pub seen_roots : RootsLoaded → Rooted
+abbrev pub seen_roots : HeapAndRoots → Rooted
 seen_roots loaded = record { walk = new_walk loaded.heap loaded.previews; part = shown_body loaded.body }
 
 -- what a walker goes over in a part of a heap
@@ -133,5 +133,5 @@ terms_loaded roots =
     ++ root_elements (roots_in Mail roots.mail.bytes.items)
 
 -- the heap that was loaded, and the terms that refer to it
-abbrev pub seen_reach : ReachLoaded → Entered
+abbrev pub seen_reach : ReachedHeap → Entered
 seen_reach loaded = record { heap = loaded.heap; terms = terms_loaded loaded.roots }

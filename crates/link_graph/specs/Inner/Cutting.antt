@@ -2,7 +2,7 @@
 use Rattle.std.specs.Prelude.{ℕ, ◌-◌, ◌≤◌, List, [], length, Option, IfSome}
 use Rattle.std.specs.Option.{option_map_or}
 use Rattle.link_graph.specs.Entries.{Part, cut, parts_from}
-use Rattle.link_graph.specs.declared.cutting.Piece.{Piece}
+use Rattle.link_graph.specs.declared.list_parts.Piece.{Piece}
 
 -- the parts of a rest, if there is one
 abbrev pub cut_rest : Option (List ℕ) → List (List ℕ)

@@ -5,7 +5,7 @@ use Rattle.dump_sections.specs.Sections.{Section}
 use Rattle.root_views.specs.Roots.{BodyRoot}
 use Rattle.message_shapes.specs.Messages.{roots_in_mail}
 use Rattle.message_shapes.specs.Inner.Telling.{roots_told, AreCells}
-use Rattle.message_shapes.specs.declared.hearing.MailSink.{MailSink}
+use Rattle.message_shapes.specs.declared.mail_sink.MailSink.{MailSink}
 
 -- the messages that were heard refer to cells of the skeleton
 abbrev pub IsReady : MailSink → Type 0

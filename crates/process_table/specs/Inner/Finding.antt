@@ -14,7 +14,7 @@ use Rattle.dump_sections.specs.Bodies.{section_at}
 use Rattle.dump_sections.specs.Index.{Contents}
 use Rattle.dump_sections.specs.Lookups.{has_tag}
 use Rattle.dump_sections.specs.Sections.{Section, id_of}
-use Rattle.process_table.specs.declared.finding.Found.{Found}
+use Rattle.process_table.specs.declared.first_by_pid.Found.{Found}
 use Rattle.process_table.specs.declared.pids.PidOrder.{PidOrder}
 use Rattle.process_table.specs.declared.pids.PidOrder.TheVariants.{Rising, Ranked}
 use Rattle.process_table.specs.declared.pids.PidPlace.{PidPlace}

@@ -11,7 +11,7 @@ use Rattle.binary_holders.specs.declared.rows.Holding.{Holding}
 use Rattle.dump_io.specs.Dumps.{told, Now}
 use Rattle.dump_sections.specs.Bodies.{IsBodyIn}
 use Rattle.stream_commands.specs.declared.binaries.Node.{Node}
-use Rattle.stream_commands.specs.declared.binaries.Loaded.{Loaded as BinariesLoaded}
+use Rattle.stream_commands.specs.declared.binaries.NodeAndUses.{NodeAndUses}
 
 -- the processes of a dump, and what was found that they hold
 abbrev pub seen_held : {A : Type 0} → Contents → ProcessTable → A → Held A
@@ -28,7 +28,7 @@ pub record HoldsNode (index : Contents) (now : Now) (node : Node) : Type 0 where
   pub over : AreProcessesOver index node.procs
 
 -- the processes of a dump, and what was found of the use of its binaries
-abbrev pub seen_use : Contents → BinariesLoaded → Held Used
+abbrev pub seen_use : Contents → NodeAndUses → Held Used
 seen_use index loaded =
     seen_held index loaded.node.procs (record { usage = shown_use loaded.found; memory = loaded.node.memory.bytes.items })
 

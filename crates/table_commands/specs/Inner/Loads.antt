@@ -10,13 +10,13 @@ use Rattle.table_sections.specs.Tables.{table_of, AreListed, IsTableOver}
 use Rattle.dump_audit.specs.Findings.{audit_of, Audit}
 use Rattle.std.specs.Option.{option_map}
 use Rattle.report_text.specs.Reports.{version_text}
-use Rattle.dump_audit.specs.declared.loading.AuditBodies.{AuditBodies}
+use Rattle.dump_audit.specs.declared.bodies.AuditBodies.{AuditBodies}
 use Rattle.dump_io.specs.Dumps.{told, Now}
 use Rattle.dump_sections.specs.Bodies.{section_in, IsBodyIn}
 use Rattle.process_table.specs.Records.{proc_places}
 use Rattle.dump_questions.specs.declared.subjects.Body.{Body}
 use Rattle.table_commands.specs.declared.triage.Places.{Places}
-use Rattle.table_commands.specs.declared.triage.Loaded.{Loaded as TriageLoaded}
+use Rattle.table_commands.specs.declared.triage.NodeTables.{NodeTables}
 
 -- what `info` tells of a dump, by the index and the first body
 abbrev pub seen_overview : Contents → Body → Overview
@@ -27,7 +27,7 @@ abbrev pub loaded_audit : ℕ → Contents → AuditBodies → Audit
 loaded_audit limit index loaded = audit_of index loaded.procs.processes limit (option_map (λ counts. counts.items) loaded.mails)
 
 -- what `triage` tells of a dump, by the index and what was loaded
-abbrev pub seen_triage : Contents → TriageLoaded → Told
+abbrev pub seen_triage : Contents → NodeTables → Told
 seen_triage index loaded = record {
   index = index;
   first = loaded.first.bytes.items;
@@ -45,13 +45,13 @@ pub record AreFound (index : Contents) (places : Places) : Type 0 where
   pub tables : AreListed index places.tables
 
 -- what `triage` has read is of what is open
-pub record HoldsBodies (index : Contents) (now : Now) (loaded : TriageLoaded) : Type 0 where
+pub record HoldsBodies (index : Contents) (now : Now) (loaded : NodeTables) : Type 0 where
   pub first : IsBodyIn now (section_in index (Some 0)) loaded.first.bytes.items
   pub memory : IsBodyIn now (memory_section (sections_in index)) loaded.memory.bytes.items
   pub procs : (bytes : List ℕ) → now ≡ told bytes → loaded.procs ≡ process_table bytes
   pub tables : (bytes : List ℕ) → now ≡ told bytes → loaded.tables ≡ table_of Ets bytes
 
 -- each process and each table that `triage` has read is one of the index
-pub record Fits (index : Contents) (loaded : TriageLoaded) : Type 0 where
+pub record Fits (index : Contents) (loaded : NodeTables) : Type 0 where
   pub sections : All (IsProcessIn index) loaded.procs.processes
   pub tables : IsTableOver Ets index loaded.tables

@@ -5,11 +5,11 @@ use Rattle.root_views.specs.Kinds.{roots_in}
 use Rattle.term_unfold.specs.Walks.{new_walk, Walk}
 use Rattle.term_text.specs.Roots.{answer_over, roots_report}
 use Rattle.dump_questions.specs.Laws.Reading.{Tells-kept, Tells-put, Tells-stopped}
-use Rattle.heap_commands.specs.declared.roots.Loaded.{Loaded}
+use Rattle.heap_commands.specs.declared.roots.HeapAndRoots.{HeapAndRoots}
 use Rattle.heap_commands.proofs.roots.RootsReport.put.Goals as goal
 
 -- the text of the roots, by a walker over the heap
-roots-shown : (kind : RootKind) (nodes : ℕ) (marked : Bool) (loaded : Loaded) (walker : Walk) (bytes : List ℕ)
+roots-shown : (kind : RootKind) (nodes : ℕ) (marked : Bool) (loaded : HeapAndRoots) (walker : Walk) (bytes : List ℕ)
     → walker ≡ new_walk loaded.heap loaded.previews → bytes ≡ loaded.body.bytes.items
     → roots_report (answer_over walker nodes marked) loaded.body.base (roots_in kind bytes) ≡ roots_report (answer_over (new_walk loaded.heap loaded.previews) nodes marked) loaded.body.base (roots_in kind loaded.body.bytes.items)
 roots-shown kind nodes marked loaded walker bytes over held =

@@ -1,5 +1,0 @@
-use Rattle.tuple_fronts.proofs.ReadFacts.{HasBegun}
-use Rattle.tuple_fronts.proofs.reading.keep_elements.Given as goal
-
-abbrev pub invariant-loop-place : goal.invariant-loop-place
-invariant-loop-place l = HasBegun l.fn.elements l.elements l.fn.kept l.kept l._place
