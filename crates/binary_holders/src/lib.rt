@@ -15,10 +15,10 @@
 #![tactic(auto)]
 
 mod counts;
+mod heap_holders;
 mod heap_places;
 mod heap_sink;
 mod hints;
-mod holders;
 mod lines;
 mod pushing;
 mod rows;

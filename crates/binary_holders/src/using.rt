@@ -15,9 +15,9 @@ ghost use Rattle.binary_holders.specs.Inner.Rows.{AreRows, row_at};
 ghost use Rattle.binary_holders.specs.Inner.Counting.{HasCounted};
 
 use crate::counts::Counts;
+use crate::heap_holders::count_all;
 use crate::heap_places::heap_places;
 use crate::heap_sink::HeapSink;
-use crate::holders::count_all;
 use crate::pushing::push_row;
 use crate::rows::{BinaryRow, Holding, WholeLines};
 use crate::stored::{StoredAt, find_stored, read_sizes};

@@ -4,7 +4,7 @@ use Rattle.std.specs.Prelude.{slice_get}
 use Rattle.process_table.specs.Processes.{Process}
 use Rattle.link_graph.specs.Lists.{Links, links_at}
 use Rattle.link_graph.specs.Graph.{graph_of}
-use Rattle.dump_audit.specs.FindingNames.{kind_in, kind_at}
+use Rattle.dump_audit.specs.FindingViews.{kind_in, kind_at}
 use Rattle.link_graph.specs.Laws.{links-at}
 
 pub kind-there : (graph : List Links) (processes : List Process) (p entry : ℕ) → graph ≡ graph_of processes

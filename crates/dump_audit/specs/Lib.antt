@@ -1,6 +1,6 @@
 pub mod Audits
 pub mod Bodies
-pub mod FindingNames
+pub mod FindingViews
 pub mod Findings
 pub mod Fitting
 pub mod Inner

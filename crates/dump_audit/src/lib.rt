@@ -10,7 +10,7 @@
 //! [`AuditBodies`] are the processes of a dump and, for a full audit, how many messages their mailboxes have.
 //! All bodies are found on the index and judged before one is read; of a mailbox only the number of its
 //! messages is kept. A finding names processes by their places in the process table, and an entry by its number
-//! in its process's list; [`named`] has the words, pids and references to write.
+//! in its process's list; [`view_of`] has the word, the pids, the reference and the numbers to write.
 #![tactic(auto)]
 
 mod audited;
@@ -20,9 +20,10 @@ mod finding;
 mod linking;
 mod mailboxes;
 mod messages;
-pub mod named;
 mod queues;
+mod views;
 
 pub use auditing::{audit, audit_full, audit_with, is_cut};
 pub use bodies::AuditBodies;
 pub use finding::Finding;
+pub use views::{FindingView, Named, view_of};

@@ -9,7 +9,7 @@ ghost use Rattle.dump_audit.specs.Inner.Audited.{IsHolder, entries_in, held};
 
 use crate::audited::{Audited, Holder, Partner};
 use crate::finding::Finding;
-use crate::named::partner_pid;
+use crate::views::partner_pid;
 use link_graph::{Entry, EntryKind};
 use std::alloc::AllocError;
 

@@ -5,5 +5,5 @@ pub mod FirstFacts
 pub mod Kept
 pub mod PairFacts
 pub mod Parts
-pub mod Places
+pub mod PlaceFacts
 mod TagExamples

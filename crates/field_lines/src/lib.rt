@@ -11,8 +11,8 @@
 //! ```
 #![tactic(auto)]
 
-pub mod fields;
+pub mod reading;
 pub mod shapes;
 
-pub use fields::{field, find};
+pub use reading::{field, find};
 pub use shapes::{FieldAt, Line};

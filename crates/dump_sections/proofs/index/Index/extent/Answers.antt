@@ -4,7 +4,7 @@ use Rattle.std.specs.List.{slice_get}
 use Rattle.dump_io.specs.Lines.{Header}
 use Rattle.dump_sections.specs.Sections.{section, sections_of}
 use Rattle.dump_sections.specs.Index.{Contents, HasShortLine, sections_in}
-use Rattle.dump_sections.proofs.Places.{sections_of-at}
+use Rattle.dump_sections.proofs.PlaceFacts.{sections_of-at}
 use Rattle.dump_sections.proofs.Parts.{Tile-at}
 use Rattle.dump_io.specs.Laws.Lists.{All-at}
 use Rattle.dump_sections.proofs.index.Index.extent.Goals as goal

@@ -1,7 +1,7 @@
 use Rattle.std.proofs.Common.{true, false, sym, ◌∙◌, ap, arith}
 use Rattle.std.specs.Str.{bytes_eq}
 use Rattle.dump_sections.specs.Index.{Contents, dump_state}
-use Rattle.dump_sections.proofs.Places.{state_of-last}
+use Rattle.dump_sections.proofs.PlaceFacts.{state_of-last}
 use Rattle.dump_sections.proofs.index.Index.state.Goals as goal
 
 pub returns-then-eq-clause-value : goal.returns-then-eq-clause-value

@@ -4,7 +4,7 @@ use Rattle.std.specs.List.{slice_get}
 use Rattle.dump_sections.specs.Bodies.{section_at}
 use Rattle.dump_sections.specs.Sections.{section, sections_of, end_at}
 use Rattle.dump_sections.specs.Index.{Contents, sections_in}
-use Rattle.dump_sections.proofs.Places.{sections_of-at}
+use Rattle.dump_sections.proofs.PlaceFacts.{sections_of-at}
 use Rattle.dump_sections.proofs.index.Index.text.Goals as goal
 
 -- the section of the header

@@ -2,7 +2,7 @@ use Rattle.std.proofs.Common.{None, Some, if◌then◌else◌, ap, sym, ◌∙�
 use Rattle.field_lines.specs.Fields.{place_of}
 use Rattle.field_lines.specs.Shown.{shown_line}
 use Rattle.field_lines.specs.Laws.{field_of-value, length-value, no_colon-there}
-use Rattle.field_lines.proofs.fields.place.Goals as goal
+use Rattle.field_lines.proofs.reading.place.Goals as goal
 
 pub returns-then-not-may_have_key : goal.returns-then-not-may_have_key
 returns-then-not-may_have_key c =

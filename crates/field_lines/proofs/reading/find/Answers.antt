@@ -5,7 +5,7 @@ use Rattle.field_lines.specs.Lines.{IsPart}
 use Rattle.field_lines.specs.Fields.{value_of}
 use Rattle.field_lines.specs.Shown.{shown_line}
 use Rattle.field_lines.proofs.FieldFacts.{place-found, place-missed, find-here, find-later, IsWithin-place, slice-place}
-use Rattle.field_lines.proofs.fields.find.Goals as goal
+use Rattle.field_lines.proofs.reading.find.Goals as goal
 
 pub returns-in-Some-place-clause-within : goal.returns-in-Some-place-clause-within
 returns-in-Some-place-clause-within c =

@@ -7,7 +7,7 @@ use Rattle.binary_holders.specs.Usage.{NamesProcess}
 use Rattle.binary_holders.specs.Inner.HeapSinks.{IsReady}
 use Rattle.binary_holders.specs.Inner.Places.{numbers_at, references_at, size_at}
 use Rattle.binary_holders.specs.Inner.Counting.{HasCounted}
-use Rattle.binary_holders.proofs.holders.count_all.Given as goal
+use Rattle.binary_holders.proofs.heap_holders.count_all.Given as goal
 
 -- the heaps of the processes so far were counted
 abbrev pub invariant-loop-process : goal.invariant-loop-process

@@ -2,7 +2,7 @@ use Rattle.std.proofs.Common.{◌≡◌}
 use Rattle.std.specs.Prelude.{All, find}
 use Rattle.field_lines.specs.Lines.{IsPart}
 use Rattle.field_lines.specs.Fields.{find_line, has_key}
-use Rattle.field_lines.proofs.fields.find.Given as goal
+use Rattle.field_lines.proofs.reading.find.Given as goal
 
 abbrev pub invariant-loop-line : goal.invariant-loop-line
 invariant-loop-line l =

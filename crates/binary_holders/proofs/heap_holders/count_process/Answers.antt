@@ -4,7 +4,7 @@ use Rattle.dump_io.specs.Dumps.{size_of}
 use Rattle.binary_holders.specs.Usage.{NamesProcess}
 use Rattle.binary_holders.specs.Inner.Places.{numbers_at}
 use Rattle.binary_holders.proofs.HoldingFacts.{held-more, few-at, named-more}
-use Rattle.binary_holders.proofs.holders.count_process.Goals as goal
+use Rattle.binary_holders.proofs.heap_holders.count_process.Goals as goal
 
 pub returns-clause-held : goal.returns-clause-held
 returns-clause-held g c = λ dump is before place had so_far.

@@ -8,7 +8,7 @@ use Rattle.binary_holders.specs.Held.{holdings, whole_lines}
 use Rattle.binary_holders.specs.Inner.Places.{numbers_at, references_at, size_at}
 use Rattle.binary_holders.specs.Inner.Counting.{HasCounted}
 use Rattle.binary_holders.proofs.HoldingFacts.{lines-more}
-use Rattle.binary_holders.proofs.holders.count_all.Goals as goal
+use Rattle.binary_holders.proofs.heap_holders.count_all.Goals as goal
 
 pub loop-process-preserved : goal.loop-process-preserved
 loop-process-preserved g c =
