@@ -19,8 +19,8 @@ use Rattle.dump_sections.specs.Index.{Contents, dump_state}
 use Rattle.process_table.specs.Processes.{Process}
 use Rattle.dump_audit.specs.declared.finding.Finding.{Finding}
 use Rattle.dump_audit.specs.declared.finding.Finding.TheVariants.{LinkOneSided, MonitorTo, MonitorFrom, Mailbox, UnreadLinks, UnreadQueue, LinkGone, ToGone, FromGone, QueueCount}
-use Rattle.dump_audit.specs.FindingNames.{pid_at, partner_at, reference_at}
-use Rattle.json_report.specs.Trees.{members, characters, num, text, count_object, finding_object, link_object, mailbox_object, monitor_object, process_object, state_text, tree_object, finding_tree}
+use Rattle.dump_audit.specs.FindingViews.{Named, Nothing, Partner, Monitor, Count, Counts, View, view, view_of}
+use Rattle.json_report.specs.Trees.{members, characters, num, text, finding_object, view_members, state_text, tree_object, finding_tree}
 use Rattle.json_report.specs.Laws.{Has64Bits, IsReadBack}
 
 pub members_len-members : (ms : List (List ℕ × Data)) → members_len (members ms) ≡ length ms
@@ -114,48 +114,52 @@ plain-array n ds p = record {
 
 -- ---- findings
 
-plain-process : (kind p : List ℕ) (at other : ℕ) → at < 2 ^ 64 → other < 2 ^ 64 → IsPlain 1 (process_object kind p at other)
-plain-process kind p at other a o =
-    plain-object 0 ((codes "at", num at) ∷ (codes "kind", string kind) ∷ (codes "other", num other) ∷ (codes "p", text p) ∷ [])
-    (plain-num at a, (plain-string kind, (plain-num other o, (plain-string (characters p), tt)))) refl
+-- the numbers that a finding names have 64 bits
+abbrev NamedBits : Named → Type 0
+NamedBits (Count messages) = messages < 2 ^ 64
+NamedBits (Counts stated found) = (stated < 2 ^ 64) × (found < 2 ^ 64)
+NamedBits named = Unit {0}
 
-plain-link : (kind p q : List ℕ) (at other : ℕ) → at < 2 ^ 64 → other < 2 ^ 64 → IsPlain 1 (link_object kind p q at other)
-plain-link kind p q at other a o =
-    plain-object 0
-    ((codes "at", num at) ∷ (codes "kind", string kind) ∷ (codes "other", num other) ∷ (codes "p", text p) ∷ (codes "q", text q) ∷ [])
-    (plain-num at a, (plain-string kind, (plain-num other o, (plain-string (characters p), (plain-string (characters q), tt))))) refl
+plain-view : (word pid : List ℕ) (named : Named) (at other : ℕ) → at < 2 ^ 64 → other < 2 ^ 64 → NamedBits named → IsPlain 1 (object (members (view_members (view word pid named at other))))
+plain-view word pid Nothing at other a o bits =
+    plain-object 0 (view_members (view word pid Nothing at other))
+    (plain-num at a, (plain-string word, (plain-num other o, (plain-string (characters pid), tt)))) refl
+plain-view word pid (Partner q) at other a o bits =
+    plain-object 0 (view_members (view word pid (Partner q) at other))
+    (plain-num at a, (plain-string word, (plain-num other o, (plain-string (characters pid), (plain-string (characters q), tt))))) refl
+plain-view word pid (Monitor q reference) at other a o bits =
+    plain-object 0 (view_members (view word pid (Monitor q reference) at other))
+    (plain-num at a, (plain-string word, (plain-num other o, (plain-string (characters pid), (plain-string (characters q), (plain-string (characters reference), tt)))))) refl
+plain-view word pid (Count messages) at other a o bits =
+    plain-object 0 (view_members (view word pid (Count messages) at other))
+    (plain-num at a, (plain-num messages bits, (plain-string word, (plain-num other o, (plain-string (characters pid), tt))))) refl
+plain-view word pid (Counts stated found) at other a o bits =
+    plain-object 0 (view_members (view word pid (Counts stated found) at other))
+    (plain-num at a, (plain-num found bits.1, (plain-string word, (plain-num other o, (plain-string (characters pid), (plain-num stated bits.0, tt)))))) refl
 
-plain-monitor : (kind p q reference : List ℕ) (at other : ℕ) → at < 2 ^ 64 → other < 2 ^ 64 → IsPlain 1 (monitor_object kind p q reference at other)
-plain-monitor kind p q reference at other a o =
-    plain-object 0
-    ((codes "at", num at) ∷ (codes "kind", string kind) ∷ (codes "other", num other) ∷ (codes "p", text p) ∷ (codes "q", text q) ∷ (codes "ref", text reference) ∷ [])
-    (plain-num at a, (plain-string kind, (plain-num other o, (plain-string (characters p), (plain-string (characters q), (plain-string (characters reference), tt)))))) refl
+-- the numbers that are told of a finding have 64 bits
+record ViewBits (v : View) : Type 0 where
+  at : v.at < 2 ^ 64
+  other : v.other < 2 ^ 64
+  named : NamedBits v.named
 
-plain-mailbox : (p : List ℕ) (count at other : ℕ) → at < 2 ^ 64 → other < 2 ^ 64 → count < 2 ^ 64 → IsPlain 1 (mailbox_object p count at other)
-plain-mailbox p count at other a o n =
-    plain-object 0
-    ((codes "at", num at) ∷ (codes "count", num count) ∷ (codes "kind", string (codes "mailbox")) ∷ (codes "other", num other) ∷ (codes "p", text p) ∷ [])
-    (plain-num at a, (plain-num count n, (plain-string (codes "mailbox"), (plain-num other o, (plain-string (characters p), tt))))) refl
-
-plain-count : (p : List ℕ) (stated found at other : ℕ) → at < 2 ^ 64 → other < 2 ^ 64 → stated < 2 ^ 64 → found < 2 ^ 64 → IsPlain 1 (count_object p stated found at other)
-plain-count p stated found at other a o s f =
-    plain-object 0
-    ((codes "at", num at) ∷ (codes "found", num found) ∷ (codes "kind", string (codes "queue-count")) ∷ (codes "other", num other) ∷ (codes "p", text p) ∷ (codes "stated", num stated) ∷ [])
-    (plain-num at a, (plain-num found f, (plain-string (codes "queue-count"), (plain-num other o, (plain-string (characters p), (plain-num stated s, tt)))))) refl
+view-bits : (ps : List Process) (f : Finding) → Has64Bits f → ViewBits (view_of ps f)
+view-bits ps (LinkOneSided p q entry at other) b = record { at = b.0; other = b.1; named = tt }
+view-bits ps (MonitorTo p q entry at other) b = record { at = b.0; other = b.1; named = tt }
+view-bits ps (MonitorFrom p q entry at other) b = record { at = b.0; other = b.1; named = tt }
+view-bits ps (Mailbox p count at other) b = record { at = b.0; other = b.1; named = b.2 }
+view-bits ps (UnreadLinks p at other) b = record { at = b.0; other = b.1; named = tt }
+view-bits ps (UnreadQueue p at other) b = record { at = b.0; other = b.1; named = tt }
+view-bits ps (LinkGone p entry at other) b = record { at = b.0; other = b.1; named = tt }
+view-bits ps (ToGone p entry at other) b = record { at = b.0; other = b.1; named = tt }
+view-bits ps (FromGone p entry at other) b = record { at = b.0; other = b.1; named = tt }
+view-bits ps (QueueCount p stated found at other) b = record { at = b.0; other = b.1; named = (b.2, b.3) }
 
 plain-finding : (ps : List Process) (f : Finding) → Has64Bits f → IsPlain 1 (finding_object ps f)
-plain-finding ps (LinkOneSided p q entry at other) b = plain-link (codes "link") (pid_at ps p) (pid_at ps q) at other b.0 b.1
-plain-finding ps (MonitorTo p q entry at other) b = plain-monitor (codes "monitor-to") (pid_at ps p) (pid_at ps q) (reference_at ps p entry) at other b.0 b.1
-plain-finding ps (MonitorFrom p q entry at other) b = plain-monitor (codes "monitor-from") (pid_at ps p) (pid_at ps q) (reference_at ps p entry) at other b.0 b.1
-plain-finding ps (Mailbox p count at other) b = plain-mailbox (pid_at ps p) count at other b.0 b.1 b.2
-plain-finding ps (UnreadLinks p at other) b = plain-process (codes "unread-links") (pid_at ps p) at other b.0 b.1
-plain-finding ps (UnreadQueue p at other) b = plain-process (codes "unread-queue") (pid_at ps p) at other b.0 b.1
-plain-finding ps (LinkGone p entry at other) b = plain-link (codes "link-gone") (pid_at ps p) (partner_at ps p entry) at other b.0 b.1
-plain-finding ps (ToGone p entry at other) b =
-    plain-monitor (codes "to-gone") (pid_at ps p) (partner_at ps p entry) (reference_at ps p entry) at other b.0 b.1
-plain-finding ps (FromGone p entry at other) b =
-    plain-monitor (codes "from-gone") (pid_at ps p) (partner_at ps p entry) (reference_at ps p entry) at other b.0 b.1
-plain-finding ps (QueueCount p stated found at other) b = plain-count (pid_at ps p) stated found at other b.0 b.1 b.2 b.3
+plain-finding ps f b =
+    let v = view_of ps f in
+    let bits = view-bits ps f b in
+    plain-view v.word v.pid v.named v.at v.other bits.at bits.other bits.named
 
 plain-findings : (ps : List Process) (found : List Finding) → All Has64Bits found → AllPlain 1 (map (finding_object ps) found)
 plain-findings ps [] b = tt
@@ -186,8 +190,11 @@ read-as text tree d same back is = ap (λ o. unwrap_or o tree) (sym is ∙ ap re
 -- ---- no float
 
 whole-finding : (ps : List Process) (f : Finding) → has_float (finding_object ps f) ≡ false
-whole-finding ps (LinkOneSided p q entry at other) = refl
-whole-finding ps f = refl
+whole-finding ps f = of (view_of ps f)
+  where
+    of : (v : View) → has_float (object (members (view_members v))) ≡ false
+    of v = elim v.named as (λ named. has_float (object (members (view_members (view v.word v.pid named v.at v.other)))) ≡ false)
+        [ Nothing ↦ refl | Partner pid ↦ refl | Monitor pid reference ↦ refl | Count messages ↦ refl | Counts stated found ↦ refl ]
 
 whole-findings : (ps : List Process) (found : List Finding) → items_have_float (items_of (map (finding_object ps) found)) ≡ false
 whole-findings ps [] = refl

@@ -9,10 +9,9 @@ use Rattle.dump_sections.specs.declared.index.State.TheVariants.{Whole, Truncate
 use Rattle.dump_sections.specs.Bodies.{section_at}
 use Rattle.dump_sections.specs.Index.{Contents, dump_state}
 use Rattle.process_table.specs.Processes.{Process}
-use Rattle.dump_audit.specs.FindingNames.{pid_at, partner_at, reference_at}
+use Rattle.dump_audit.specs.FindingViews.{Named, Partner, Monitor, Count, Counts, View, view_of}
 use Rattle.dump_audit.specs.Findings.{Audit, findings}
 use Rattle.dump_audit.specs.declared.finding.Finding.{Finding}
-use Rattle.dump_audit.specs.declared.finding.Finding.TheVariants.{LinkOneSided, MonitorTo, MonitorFrom, Mailbox, UnreadLinks, UnreadQueue, LinkGone, ToGone, FromGone, QueueCount}
 
 -- ---- values
 
@@ -35,44 +34,27 @@ members ((key, value) ∷ rest) = member key value (members rest)
 
 -- ---- the object of a finding
 
--- what all findings have, with other members before their kind and behind their process
-abbrev pub object_of : List (List ℕ × Data) → List ℕ → List ℕ → List (List ℕ × Data) → ℕ → ℕ → Data
-object_of before kind p behind at other = object (members ((codes "at", num at) ∷ (before
-    ++ (codes "kind", string kind) ∷ (codes "other", num other) ∷ (codes "p", text p) ∷ behind)))
+-- the numbers and pids that a finding names, where their keys stand before its kind
+abbrev pub named_before : Named → List (List ℕ × Data)
+named_before (Count messages) = (codes "count", num messages) ∷ []
+named_before (Counts stated found) = (codes "found", num found) ∷ []
+named_before named = []
 
--- of a process alone
-abbrev pub process_object : List ℕ → List ℕ → ℕ → ℕ → Data
-process_object kind p at other = object_of [] kind p [] at other
+-- the numbers and pids that a finding names, where their keys stand behind its process
+abbrev pub named_behind : Named → List (List ℕ × Data)
+named_behind (Partner pid) = (codes "q", text pid) ∷ []
+named_behind (Monitor pid reference) = (codes "q", text pid) ∷ (codes "ref", text reference) ∷ []
+named_behind (Counts stated found) = (codes "stated", num stated) ∷ []
+named_behind named = []
 
--- of a link with another process
-abbrev pub link_object : List ℕ → List ℕ → List ℕ → ℕ → ℕ → Data
-link_object kind p q at other = object_of [] kind p ((codes "q", text q) ∷ []) at other
-
--- of a monitor of or by another process, which has a reference
-abbrev pub monitor_object : List ℕ → List ℕ → List ℕ → List ℕ → ℕ → ℕ → Data
-monitor_object kind p q reference at other = object_of [] kind p ((codes "q", text q) ∷ (codes "ref", text reference) ∷ []) at other
-
--- of a message queue that is longer than the limit
-abbrev pub mailbox_object : List ℕ → ℕ → ℕ → ℕ → Data
-mailbox_object p count at other = object_of ((codes "count", num count) ∷ []) (codes "mailbox") p [] at other
-
--- of a message queue whose stated length isn't the number of its messages
-abbrev pub count_object : List ℕ → ℕ → ℕ → ℕ → ℕ → Data
-count_object p stated found at other =
-    object_of ((codes "found", num found) ∷ []) (codes "queue-count") p ((codes "stated", num stated) ∷ []) at other
+-- the members of the object of a finding
+abbrev pub view_members : View → List (List ℕ × Data)
+view_members v = (codes "at", num v.at) ∷ (named_before v.named
+    ++ (codes "kind", string v.word) ∷ (codes "other", num v.other) ∷ (codes "p", text v.pid) ∷ named_behind v.named)
 
 -- the object of a finding
 abbrev pub finding_object : List Process → Finding → Data
-finding_object ps (LinkOneSided p q entry at other) = link_object (codes "link") (pid_at ps p) (pid_at ps q) at other
-finding_object ps (MonitorTo p q entry at other) = monitor_object (codes "monitor-to") (pid_at ps p) (pid_at ps q) (reference_at ps p entry) at other
-finding_object ps (MonitorFrom p q entry at other) = monitor_object (codes "monitor-from") (pid_at ps p) (pid_at ps q) (reference_at ps p entry) at other
-finding_object ps (Mailbox p count at other) = mailbox_object (pid_at ps p) count at other
-finding_object ps (UnreadLinks p at other) = process_object (codes "unread-links") (pid_at ps p) at other
-finding_object ps (UnreadQueue p at other) = process_object (codes "unread-queue") (pid_at ps p) at other
-finding_object ps (LinkGone p entry at other) = link_object (codes "link-gone") (pid_at ps p) (partner_at ps p entry) at other
-finding_object ps (ToGone p entry at other) = monitor_object (codes "to-gone") (pid_at ps p) (partner_at ps p entry) (reference_at ps p entry) at other
-finding_object ps (FromGone p entry at other) = monitor_object (codes "from-gone") (pid_at ps p) (partner_at ps p entry) (reference_at ps p entry) at other
-finding_object ps (QueueCount p stated found at other) = count_object (pid_at ps p) stated found at other
+finding_object ps finding = object (members (view_members (view_of ps finding)))
 
 -- ---- the tree
 

@@ -1,34 +1,52 @@
 // The report of `audit`.
-ghost use Rattle.std.specs.Prelude.{◌≡◌, ◌<◌, length, All};
+ghost use Rattle.std.specs.Prelude.{◌≡◌, All};
 ghost use Rattle.std.specs.List.{flat_map};
-ghost use Rattle.dump_io.specs.Pieces.{piece_text};
 ghost use Rattle.dump_io.specs.Sinks.{Puts};
 ghost use Rattle.link_graph.specs.Graph.{graph_of};
-ghost use Rattle.dump_audit.specs.FindingNames.{pid_at};
+ghost use Rattle.dump_audit.specs.FindingViews.{shown_view};
 ghost use Rattle.dump_audit.specs.Fitting.{Fits};
-ghost use Rattle.table_commands.specs.Findings.{finding_line, findings_report};
+ghost use Rattle.report_lines.specs.Lines.{line_of, word_space};
+ghost use Rattle.table_commands.specs.Findings.{finding_line, findings_report, view_parts};
 
-use dump_audit::Finding;
-use dump_audit::named::{kind, partner, reference};
+use dump_audit::{Finding, FindingView, Named, view_of};
 use dump_io::{Failed, Piece, Sink};
 use dump_sections::Index;
 use link_graph::Graph;
 use process_table::Procs;
 use report_lines::{put_line, put_state, put_total_line};
 
-// The pid of the process at a place.
-fn pid(procs: &Procs, p: u32) -> Piece<'_>
-    requires { p < length procs.now.processes }
-    ensures { piece_text result ≡ pid_at procs.now.processes p }
+// Writes the line of a finding.
+fn put_view<K: Sink>(sink: &mut K, view: FindingView<'_>) -> Result<(), Failed>
+    ensures { let line = line_of word_space (view_parts (shown_view view.entry)) in
+        Puts (K.state sink.old) (K.state sink.new) line result }
 {
-    Piece::Bytes(procs.pid(p as usize))
+    let word = Piece::Bytes(view.word.as_bytes());
+    let pid = Piece::Bytes(view.pid);
+    let (at, other) = (Piece::Dec(view.at), Piece::Dec(view.other));
+    match view.named {
+        Named::Nothing => put_line(sink, b" ", &[word, pid, at, other]),
+        Named::Partner(partner) => {
+            put_line(sink, b" ", &[word, pid, Piece::Bytes(partner), at, other])
+        }
+        Named::Monitor(partner, reference) => {
+            let (partner, reference) = (Piece::Bytes(partner), Piece::Bytes(reference));
+            put_line(sink, b" ", &[word, pid, partner, reference, at, other])
+        }
+        Named::Count(messages) => {
+            put_line(sink, b" ", &[word, pid, Piece::Dec(messages), at, other])
+        }
+        Named::Counts(stated, found) => {
+            let (stated, found) = (Piece::Dec(stated), Piece::Dec(found));
+            put_line(sink, b" ", &[word, pid, stated, found, at, other])
+        }
+    }
 }
 
-// Writes the line of a finding.
-fn put_finding<'x, K: Sink>(
+// Writes the line of a finding among these processes.
+fn put_finding<K: Sink>(
     sink: &mut K,
-    procs: &'x Procs,
-    graph: &'x Graph<'x>,
+    procs: &Procs,
+    graph: &Graph<'_>,
     finding: Finding,
 ) -> Result<(), Failed>
     requires graph { graph.now ≡ graph_of procs.now.processes }
@@ -36,160 +54,7 @@ fn put_finding<'x, K: Sink>(
     ensures { Puts (K.state sink.old) (K.state sink.new)
         (finding_line procs.now.processes finding) result }
 {
-    match finding {
-        Finding::LinkOneSided {
-            p,
-            q,
-            at,
-            other,
-            ..
-        } => {
-            let parts = [
-                Piece::Bytes(b"link"),
-                pid(procs, p),
-                pid(procs, q),
-                Piece::Dec(at),
-                Piece::Dec(other),
-            ];
-            put_line(sink, b" ", &parts)
-        }
-        Finding::MonitorTo {
-            p,
-            q,
-            entry,
-            at,
-            other,
-        } => {
-            let kind = kind(procs, graph, p, entry);
-            let parts = [
-                Piece::Bytes(b"monitor-to"),
-                pid(procs, p),
-                pid(procs, q),
-                Piece::Bytes(reference(kind)),
-                Piece::Dec(at),
-                Piece::Dec(other),
-            ];
-            put_line(sink, b" ", &parts)
-        }
-        Finding::MonitorFrom {
-            p,
-            q,
-            entry,
-            at,
-            other,
-        } => {
-            let kind = kind(procs, graph, p, entry);
-            let parts = [
-                Piece::Bytes(b"monitor-from"),
-                pid(procs, p),
-                pid(procs, q),
-                Piece::Bytes(reference(kind)),
-                Piece::Dec(at),
-                Piece::Dec(other),
-            ];
-            put_line(sink, b" ", &parts)
-        }
-        Finding::Mailbox {
-            p,
-            count,
-            at,
-            other,
-        } => {
-            let parts = [
-                Piece::Bytes(b"mailbox"),
-                pid(procs, p),
-                Piece::Dec(count),
-                Piece::Dec(at),
-                Piece::Dec(other),
-            ];
-            put_line(sink, b" ", &parts)
-        }
-        Finding::UnreadLinks { p, at, other } => {
-            let parts = [
-                Piece::Bytes(b"unread-links"),
-                pid(procs, p),
-                Piece::Dec(at),
-                Piece::Dec(other),
-            ];
-            put_line(sink, b" ", &parts)
-        }
-        Finding::UnreadQueue { p, at, other } => {
-            let parts = [
-                Piece::Bytes(b"unread-queue"),
-                pid(procs, p),
-                Piece::Dec(at),
-                Piece::Dec(other),
-            ];
-            put_line(sink, b" ", &parts)
-        }
-        Finding::LinkGone {
-            p,
-            entry,
-            at,
-            other,
-        } => {
-            let gone = partner(kind(procs, graph, p, entry));
-            let parts = [
-                Piece::Bytes(b"link-gone"),
-                pid(procs, p),
-                Piece::Bytes(gone),
-                Piece::Dec(at),
-                Piece::Dec(other),
-            ];
-            put_line(sink, b" ", &parts)
-        }
-        Finding::ToGone {
-            p,
-            entry,
-            at,
-            other,
-        } => {
-            let kind = kind(procs, graph, p, entry);
-            let parts = [
-                Piece::Bytes(b"to-gone"),
-                pid(procs, p),
-                Piece::Bytes(partner(kind)),
-                Piece::Bytes(reference(kind)),
-                Piece::Dec(at),
-                Piece::Dec(other),
-            ];
-            put_line(sink, b" ", &parts)
-        }
-        Finding::FromGone {
-            p,
-            entry,
-            at,
-            other,
-        } => {
-            let kind = kind(procs, graph, p, entry);
-            let parts = [
-                Piece::Bytes(b"from-gone"),
-                pid(procs, p),
-                Piece::Bytes(partner(kind)),
-                Piece::Bytes(reference(kind)),
-                Piece::Dec(at),
-                Piece::Dec(other),
-            ];
-            put_line(sink, b" ", &parts)
-        }
-        Finding::QueueCount {
-            p,
-            stated,
-            found,
-            at,
-            other,
-        } => {
-            let parts = [
-                Piece::Bytes(b"queue-count"),
-                pid(procs, p),
-                Piece::Dec(stated),
-                Piece::Dec(found),
-                Piece::Dec(at),
-                Piece::Dec(other),
-            ];
-            put_line(sink, b" ", &parts)
-        }
-    }
+    put_view(sink, view_of(procs, graph, finding))
 }
 
 fn put_all<K: Sink>(
