@@ -15,9 +15,9 @@ use Rattle.binary_payloads.specs.declared.enc.Enc.{Enc}
 use Rattle.heap_cells.specs.Cells.{first_cells}
 use Rattle.heap_cells.specs.DumpHeaps.{heap_map}
 use Rattle.heap_cells.specs.Loading.{enc_of, heap_bodies, heap_section, literals_section}
-use Rattle.heap_lines.specs.Wholes.{cells_in, text_size, HasLines}
-use Rattle.heap_lines.specs.declared.whole.HeapLines.{HeapLines}
-use Rattle.heap_parts.specs.Firsts.{IsLawful}
+use Rattle.heap_parts.specs.Wholes.{cells_in, text_size, HasLines}
+use Rattle.heap_parts.specs.declared.heap_lines.HeapLines.{HeapLines}
+use Rattle.heap_parts.specs.Parts.{IsLawful}
 use Rattle.report_lines.specs.Lines.{line_of, total_line, word_space}
 use Rattle.report_text.specs.declared.refusals.Refusal.{Refusal}
 use Rattle.root_views.specs.Shown.{shown_roots, SomeRoots}

@@ -12,8 +12,8 @@ use Rattle.term_forms.specs.Forms.{HeapForm, RefBin, SubBin}
 use Rattle.heap_cells.specs.Cells.{Cell, first_cells}
 use Rattle.heap_cells.specs.HeapMap.{form_at}
 use Rattle.binary_refs.specs.Previews.{binaries, by_number, stated}
-use Rattle.heap_parts.specs.Firsts.{first_with, EachFirst, AreFirstLines}
-use Rattle.heap_parts.specs.Laws.Firsts.{keeps-first}
+use Rattle.heap_parts.specs.Inner.Growing.{first_with, EachFirst, AreFirstLines}
+use Rattle.heap_parts.proofs.FirstFacts.{keeps-first}
 
 -- ---- counting addresses in place of numbers
 

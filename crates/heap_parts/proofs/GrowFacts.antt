@@ -1,9 +1,9 @@
 -- A text of first lines that grows, and what is enough for some roots.
-use Rattle.std.proofs.Common.{◌≡◌, ℕ, ◌+◌, ◌-◌, ◌*◌, ◌^◌, ◌<◌, ◌≤◌, Bool, false, if◌then◌else◌, List, [], ◌∷◌, length, take, map, get_or, Option, None, Some, refl, sym, ◌∙◌, ap, ap₂, subst, append-nil, arith}
+use Rattle.std.proofs.Common.{◌≡◌, ℕ, ◌-◌, ◌*◌, ◌<◌, ◌≤◌, Bool, false, if◌then◌else◌, List, [], ◌∷◌, length, take, map, get_or, Option, None, Some, refl, sym, ◌∙◌, ap, ap₂, subst, append-nil, arith}
 use Rattle.std.specs.Option.{option_and_then, option_or}
 use Rattle.std.proofs.lemmas.List.{length-map, get_or-map}
-use Rattle.dump_io.specs.Dumps.{Now, DeviceState, ReadsAtMost}
-use Rattle.dump_io.specs.Laws.Reads.{ReadsAtMost-none, ReadsAtMost-both, ReadsAtMost-within}
+use Rattle.dump_io.specs.Dumps.{DeviceState, ReadsAtMost}
+use Rattle.dump_io.specs.Laws.Reads.{ReadsAtMost-both}
 use Rattle.binary_payloads.specs.declared.enc.Enc.{Enc}
 use Rattle.term_forms.specs.Seen.{element}
 use Rattle.term_forms.specs.declared.shapes.Elem.{Elem}
@@ -13,63 +13,35 @@ use Rattle.heap_cells.specs.Cells.{Cell, first_cells, line_cells, cells_of}
 use Rattle.term_unfold.specs.Parts.{IsPartOfHeap, IsEnoughOf, has_cell, asked, if_lacking, gap_at, gap_of, first_gap}
 use Rattle.term_unfold.specs.Trees.{Tree, pre}
 use Rattle.term_unfold.specs.Unfolding.{unfolding_of}
-use Rattle.dump_io.specs.Faults.{IsReadCauseOf}
-use Rattle.dump_io.specs.declared.faults.ReadFault.{ReadFault}
-use Rattle.dump_io.specs.declared.faults.ReadFault.TheVariants.{Read, Memory}
-use Rattle.heap_parts.specs.Inner.Growing.{Grows, FindsNoGap}
-use Rattle.heap_parts.specs.Firsts.{AreFirstLines, MayGrow, IsPushed, IsEnoughFor, IsLawful, ReadsLines}
-use Rattle.heap_parts.specs.Laws.Firsts.{firsts-part, firsts-more}
+use Rattle.heap_parts.specs.Inner.Growing.{AreFirstLines, FindsNoGap, Grows, IsPushed, MayGrow}
+use Rattle.heap_parts.specs.Parts.{IsEnoughFor, IsLawful}
+use Rattle.heap_parts.specs.Wholes.{HasLines}
+use Rattle.heap_parts.specs.declared.gathered.Source.{Source}
+use Rattle.heap_parts.proofs.FirstFacts.{firsts-part, firsts-more}
 use Rattle.heap_parts.proofs.CountFacts.{fewer-binaries}
 
--- nothing was gathered
-pub Grows-none : (has_lines : Now → List Cell → Type 0) (enc : Enc) (limit : ℕ) (a : DeviceState) (lines : List ℕ) → MayGrow limit lines → a.taken < 2 ^ 64 → Grows has_lines enc limit a a lines lines
-Grows-none has_lines enc limit a lines room small =
-    record { reads = ReadsAtMost-none (16 * (length lines - length lines)) small; room = room; longer = omega arith; firsts = λ all has firsts. firsts }
-
 -- one step after another
-pub Grows-then : {has_lines : Now → List Cell → Type 0} {enc : Enc} {limit : ℕ} {a b c : DeviceState} {xs ys zs : List ℕ} → Grows has_lines enc limit a b xs ys
-    → Grows has_lines enc limit b c ys zs → Grows has_lines enc limit a c xs zs
-Grows-then {has_lines = has_lines} one two =
+pub Grows-then : {from : Source} {a b c : DeviceState} {xs ys zs : List ℕ} → Grows from a b xs ys → Grows from b c ys zs → Grows from a c xs zs
+Grows-then {from = from} one two =
     record {
       reads = ReadsAtMost-both one.reads two.reads (omega (arith, one.longer, two.longer));
       room = two.room;
       longer = omega (arith, one.longer, two.longer);
-      firsts = λ all has firsts. two.firsts all (subst (λ now. has_lines now all) (sym one.reads.same_now) has) (one.firsts all has firsts);
+      firsts = λ all has firsts. two.firsts all (subst (λ now. HasLines from.lines.now now all) (sym one.reads.same_now) has) (one.firsts all has firsts);
     }
 
 -- the first line of an address was gathered
-pub Grows-pushed : (has_lines : Now → List Cell → Type 0) (enc : Enc) (limit : ℕ) (a b : DeviceState) (addr : ℕ) (old new kept : List ℕ)
-    → ReadsAtMost a b (16 * (length new - length old)) → MayGrow limit new → length old < length new
-    → ((all : List Cell) → has_lines a.now all → IsPushed enc all addr old new) → kept ≡ new
-    → Grows has_lines enc limit a b old kept
-Grows-pushed has_lines enc limit a b addr old new kept reads room longer pushed is =
-    subst (λ lines. Grows has_lines enc limit a b old lines) (sym is) (record {
+pub Grows-pushed : (from : Source) (a b : DeviceState) (addr : ℕ) (old new kept : List ℕ)
+    → ReadsAtMost a b (16 * (length new - length old)) → MayGrow from.bytes new → length old < length new
+    → ((all : List Cell) → HasLines from.lines.now a.now all → IsPushed from.lines.now.enc all addr old new) → kept ≡ new
+    → Grows from a b old kept
+Grows-pushed from a b addr old new kept reads room longer pushed is =
+    subst (Grows from a b old) (sym is) (record {
       reads = reads;
       room = room;
       longer = omega (arith, longer);
-      firsts = λ all has firsts. subst (AreFirstLines all) (sym (pushed all has)) (firsts-more all (line_cells enc old) addr firsts);
+      firsts = λ all has firsts. subst (AreFirstLines all) (sym (pushed all has)) (firsts-more all (line_cells from.lines.now.enc old) addr firsts);
     })
-
--- ---- what is read, whatever the result
-
-pub reads-none : (limit : ℕ) (a : DeviceState) (lines : List ℕ) → a.taken < 2 ^ 64 → ReadsLines a a limit lines
-reads-none limit a lines small = ReadsAtMost-none (16 * (limit + 4 - length lines)) small
-
-pub reads-all : {has_lines : Now → List Cell → Type 0} {enc : Enc} {limit : ℕ} {a b : DeviceState} {xs ys : List ℕ} → Grows has_lines enc limit a b xs ys → ReadsLines a b limit xs
-reads-all one = ReadsAtMost-within (omega (arith, one.longer, one.room.few)) one.reads
-
-pub reads-then : {has_lines : Now → List Cell → Type 0} {enc : Enc} {limit : ℕ} {a b c : DeviceState} {xs ys : List ℕ} → Grows has_lines enc limit a b xs ys → ReadsLines b c limit ys
-    → ReadsLines a c limit xs
-reads-then one two = ReadsAtMost-both one.reads two (omega (arith, one.longer, one.room.few))
-
--- a later cause is one from the beginning
-pub cause-then : (a b c : DeviceState) (fault : ReadFault) → a.faults ≤ b.faults → IsReadCauseOf b c fault → IsReadCauseOf a c fault
-cause-then a b c Read later is = (refl, omega (arith, later, is.1))
-cause-then a b c Memory later is = tt
-
--- what may serve before a read may serve after it
-pub serves-then : {W : Type 0} (serves : W → Now → Type 0) (whole : W) {a b : DeviceState} {most : ℕ} → ReadsAtMost a b most → serves whole a.now → serves whole b.now
-serves-then serves whole reads is = subst (serves whole) (sym reads.same_now) is
 
 -- ---- gaps, where the addresses of the whole are told in another way
 

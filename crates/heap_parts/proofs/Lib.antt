@@ -1,3 +1,8 @@
 pub mod CountFacts
+pub mod FirstFacts
 pub mod GrowFacts
+pub mod HearFacts
+pub mod LineFacts
+pub mod PlaceFacts
 pub mod ReadFacts
+pub mod WholeFacts

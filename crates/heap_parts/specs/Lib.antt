@@ -1,4 +1,5 @@
-pub mod Firsts
 pub mod Inner
-pub mod Laws
+pub mod Parts
 pub mod Places
+pub mod Tables
+pub mod Wholes

@@ -1,10 +1,9 @@
 // The lines that were gathered, and what was read of each.
 ghost use Rattle.std.specs.Prelude.{◌≡◌, ◌^◌, ◌<◌, [], length, OnOk, IfOk, IfErr};
 ghost use Rattle.dump_io.specs.Faults.{IsReadCauseOf};
-ghost use Rattle.heap_parts.specs.Inner.Growing.{Grows};
-ghost use Rattle.heap_parts.specs.Firsts.{MayGrow, ReadsLines};
+ghost use Rattle.heap_parts.specs.Inner.Growing.{Grows, MayGather, ReadsLines};
 
-use crate::lines::WholeHeap;
+use crate::heap_lines::HeapLines;
 use dump_io::{Dumps, ReadFault, line_text};
 use heap_cells::{Kind, kind_of};
 use std::alloc::{AllocError, Global};
@@ -12,11 +11,13 @@ use std::collections::BTreeMap;
 use term_forms::reading::form;
 use term_forms::shapes::{Elem, Form};
 use term_forms::{Elems, Enc, heap_line};
+use term_unfold::Addresses;
 
-/// How much is gathered at most: so many bytes of lines, for so many nodes of
-/// each root, so many elements of which it is kept where they lead.
+/// The lines of which some are gathered, and how much is gathered at most: so many bytes of lines, for
+/// so many nodes of each root, so many elements of which it is kept where they lead.
 #[derive(Clone, Copy)]
-pub(crate) struct Bounds {
+pub(crate) struct Source<'a> {
+    pub lines: &'a HeapLines,
     pub bytes: usize,
     pub nodes: u32,
     pub leads: u32,
@@ -172,19 +173,13 @@ impl Gathered {
 }
 
 // Reads the last line that was gathered, which begins at a place, and keeps what was read of it under the address.
-fn keep_line(
-    g: &mut Gathered,
-    addr: u64,
-    at: usize,
-    enc: Enc,
-    bounds: &Bounds,
-) -> Result<usize, AllocError>
+fn keep_line(g: &mut Gathered, addr: u64, at: usize, from: &Source<'_>) -> Result<usize, AllocError>
     requires { at < length g.old.lines.items }
     ensures { g.new.lines ≡ g.old.lines }
 {
     let number = g.gists.len();
-    let gist = read_gist(&g.lines[at..], enc, bounds.nodes, &mut g.leads)?;
-    if g.leads.len() > bounds.leads as usize {
+    let gist = read_gist(&g.lines[at..], from.lines.enc, from.nodes, &mut g.leads)?;
+    if g.leads.len() > from.leads as usize {
         return Err(AllocError);
     }
     g.gists.push(gist)?;
@@ -193,48 +188,44 @@ fn keep_line(
 }
 
 // Gathers the line of an address, and returns its number.
-fn add_line<W: WholeHeap, D: Dumps>(
-    whole: &W,
+fn add_line<D: Dumps>(
+    from: &Source<'_>,
     dumps: &mut D,
     addr: u64,
-    bounds: &Bounds,
     g: &mut Gathered,
 ) -> Result<usize, ReadFault>
-    requires over { W.serves whole.now (D.state dumps.old).now }
-    requires room { MayGrow bounds.now.bytes g.old.lines.items }
-    ensures reads { ReadsLines (D.state dumps.old) (D.state dumps.new) bounds.now.bytes g.old.lines.items }
+    requires { MayGather from.now (D.state dumps.old).now g.old.lines.items }
+    ensures reads { ReadsLines (D.state dumps.old) (D.state dumps.new) from.now.bytes g.old.lines.items }
     ensures fault { IfErr result (IsReadCauseOf (D.state dumps.old) (D.state dumps.new)) }
-    ensures grows { OnOk result (Grows (W.has_lines whole.now) (W.written whole.now) bounds.now.bytes
-        (D.state dumps.old) (D.state dumps.new) g.old.lines.items g.new.lines.items) }
+    ensures grows { OnOk result (Grows from.now (D.state dumps.old) (D.state dumps.new)
+        g.old.lines.items g.new.lines.items) }
 {
     let at = g.lines.len();
-    whole.push_line(dumps, addr, bounds.bytes, &mut g.lines)?;
-    let number = keep_line(g, addr, at, whole.enc(), bounds)?;
+    from.lines.push_line(dumps, addr, from.bytes, &mut g.lines)?;
+    let number = keep_line(g, addr, at, from)?;
     Ok(number)
 }
 
 /// Gathers the line of an address, unless that was done or no line has it. Returns its number.
-pub(crate) fn line_of<W: WholeHeap, D: Dumps>(
-    whole: &W,
+pub(crate) fn line_of<D: Dumps>(
+    from: &Source<'_>,
     dumps: &mut D,
     addr: u64,
-    bounds: &Bounds,
     g: &mut Gathered,
 ) -> Result<Option<usize>, ReadFault>
-    requires over { W.serves whole.now (D.state dumps.old).now }
-    requires room { MayGrow bounds.now.bytes g.old.lines.items }
-    ensures reads { ReadsLines (D.state dumps.old) (D.state dumps.new) bounds.now.bytes g.old.lines.items }
+    requires { MayGather from.now (D.state dumps.old).now g.old.lines.items }
+    ensures reads { ReadsLines (D.state dumps.old) (D.state dumps.new) from.now.bytes g.old.lines.items }
     ensures fault { IfErr result (IsReadCauseOf (D.state dumps.old) (D.state dumps.new)) }
-    ensures grows { OnOk result (Grows (W.has_lines whole.now) (W.written whole.now) bounds.now.bytes
-        (D.state dumps.old) (D.state dumps.new) g.old.lines.items g.new.lines.items) }
+    ensures grows { OnOk result (Grows from.now (D.state dumps.old) (D.state dumps.new)
+        g.old.lines.items g.new.lines.items) }
 {
     if let Some(number) = g.numbers.get(&addr) {
         return Ok(Some(*number));
     }
-    if !whole.has(addr) {
+    if !from.lines.has(addr) {
         return Ok(None);
     }
-    let number = add_line(whole, dumps, addr, bounds, g)?;
+    let number = add_line(from, dumps, addr, g)?;
     Ok(Some(number))
 }
 
@@ -249,24 +240,22 @@ fn set_lead(leads: &mut Vec<Lead>, place: usize, found: Option<usize>) {
 }
 
 /// Follows the lead at a place: gathers the line to which it leads, unless that was done or there is none. Returns its number.
-pub(crate) fn follow<W: WholeHeap, D: Dumps>(
-    whole: &W,
+pub(crate) fn follow<D: Dumps>(
+    from: &Source<'_>,
     dumps: &mut D,
     place: usize,
-    bounds: &Bounds,
     g: &mut Gathered,
 ) -> Result<Option<usize>, ReadFault>
-    requires over { W.serves whole.now (D.state dumps.old).now }
-    requires room { MayGrow bounds.now.bytes g.old.lines.items }
-    ensures reads { ReadsLines (D.state dumps.old) (D.state dumps.new) bounds.now.bytes g.old.lines.items }
+    requires { MayGather from.now (D.state dumps.old).now g.old.lines.items }
+    ensures reads { ReadsLines (D.state dumps.old) (D.state dumps.new) from.now.bytes g.old.lines.items }
     ensures fault { IfErr result (IsReadCauseOf (D.state dumps.old) (D.state dumps.new)) }
-    ensures grows { OnOk result (Grows (W.has_lines whole.now) (W.written whole.now) bounds.now.bytes
-        (D.state dumps.old) (D.state dumps.new) g.old.lines.items g.new.lines.items) }
+    ensures grows { OnOk result (Grows from.now (D.state dumps.old) (D.state dumps.new)
+        g.old.lines.items g.new.lines.items) }
 {
     let Some(Lead::Address(addr)) = g.leads.get(place).copied() else {
         return Ok(g.line_at(place));
     };
-    let found = line_of(whole, dumps, addr, bounds, g)?;
+    let found = line_of(from, dumps, addr, g)?;
     set_lead(&mut g.leads, place, found);
     Ok(found)
 }

@@ -5,11 +5,12 @@ ghost use Rattle.dump_io.specs.Faults.{IsReadCauseOf};
 ghost use Rattle.heap_cells.specs.Cells.{Cell, line_cells};
 ghost use Rattle.term_forms.specs.Seen.{element};
 ghost use Rattle.heap_cells.specs.Loading.{IsHeapAnswerFor};
-ghost use Rattle.heap_parts.specs.Inner.Growing.{Grows, FindsNoGap};
-ghost use Rattle.heap_parts.specs.Firsts.{AreFirstLines, MayGrow, IsEnoughFor, IsLawful, ReadsLines};
+ghost use Rattle.heap_parts.specs.Inner.Growing.{FindsNoGap, Grows, MayGather, ReadsLines};
+ghost use Rattle.heap_parts.specs.Parts.{IsEnoughFor};
+ghost use Rattle.heap_parts.specs.Wholes.{is_known, text_size, HasLines, ServesLines};
 
-use crate::gathered::{Bounds, Gathered};
-use crate::lines::WholeHeap;
+use crate::gathered::{Gathered, Source};
+use crate::heap_lines::HeapLines;
 use crate::search::{Search, gather_root};
 use dump_io::{Dumps, Limits, ReadFault};
 use heap_cells::Heap;
@@ -33,20 +34,17 @@ fn heap_of(alloc: Global, lines: Vec<u8>, enc: Enc, limits: &Limits) -> Result<H
 }
 
 // Whether a root asks for a cell that the heap lacks and the whole heap has.
-fn has_gap<W: WholeHeap>(
+fn has_gap(
     alloc: Global,
     heap: &Heap,
     roots: &[Elem<'_>],
     budget: u32,
-    whole: &W,
+    whole: &HeapLines,
 ) -> Result<bool, AllocError>
     requires { 0 < budget }
-    ensures none { IfOk result (λ gap. gap ≡ false
-        → FindsNoGap (W.known whole.now) heap.now.cells roots.now budget) }
-    ensures law { (now : Now) (all : List Cell)
-        → W.has_lines whole.now now all → IsLawful (W.known whole.now) all }
+    ensures { IfOk result (λ gap. gap ≡ false
+        → FindsNoGap (is_known whole.now) heap.now.cells roots.now budget) }
 {
-    whole.law();
     let mut walker = PartWalker::new(alloc, heap)?;
     for root in roots {
         if walker.first_gap(*root, budget, whole).is_some() {
@@ -57,24 +55,22 @@ fn has_gap<W: WholeHeap>(
 }
 
 // Gathers the lines that each root needs.
-fn gather_roots<W: WholeHeap, D: Dumps>(
+fn gather_roots<D: Dumps>(
     alloc: Global,
-    whole: &W,
+    from: &Source<'_>,
     dumps: &mut D,
     roots: &[Elem<'_>],
-    bounds: &Bounds,
     g: &mut Gathered,
 ) -> Result<(), ReadFault>
-    requires over { W.serves whole.now (D.state dumps.old).now }
-    requires room { MayGrow bounds.now.bytes g.old.lines.items }
-    ensures reads { ReadsLines (D.state dumps.old) (D.state dumps.new) bounds.now.bytes g.old.lines.items }
+    requires { MayGather from.now (D.state dumps.old).now g.old.lines.items }
+    ensures reads { ReadsLines (D.state dumps.old) (D.state dumps.new) from.now.bytes g.old.lines.items }
     ensures fault { IfErr result (IsReadCauseOf (D.state dumps.old) (D.state dumps.new)) }
-    ensures grows { OnOk result (Grows (W.has_lines whole.now) (W.written whole.now) bounds.now.bytes
-        (D.state dumps.old) (D.state dumps.new) g.old.lines.items g.new.lines.items) }
+    ensures grows { OnOk result (Grows from.now (D.state dumps.old) (D.state dumps.new)
+        g.old.lines.items g.new.lines.items) }
 {
     let mut search = Search::new(alloc);
     for root in roots {
-        gather_root(whole, dumps, root, bounds, g, &mut search)?;
+        gather_root(from, dumps, root, g, &mut search)?;
     }
     Ok(())
 }
@@ -88,33 +84,34 @@ fn gather_roots<W: WholeHeap, D: Dumps>(
 /// lines are more than the limits, if the walk finds such a node, as it may if the file is changed meanwhile, and from any
 /// allocation, and `Read` only if the device's count of faults rose. Whatever it returns, it reads at most 16 times the
 /// limit on a section's body or what all lines of the whole heap take, if that is less, and 64 bytes.
-pub fn load_part<W: WholeHeap, D: Dumps>(
+pub fn load_part<D: Dumps>(
     alloc: Global,
-    whole: &W,
+    whole: &HeapLines,
     dumps: &mut D,
     roots: &[Elem<'_>],
     budget: u32,
     limits: &Limits,
 ) -> Result<Heap, ReadFault>
-    requires over { W.serves whole.now (D.state dumps.old).now }
+    requires over { ServesLines whole.now (D.state dumps.old).now }
     requires budget { 0 < budget }
     ensures reads { ReadsAtMost (D.state dumps.old) (D.state dumps.new)
-        (16 * (min limits.now.section (W.size whole.now) + 4)) }
+        (16 * (min limits.now.section (text_size whole.now) + 4)) }
     ensures fault { IfErr result (IsReadCauseOf (D.state dumps.old) (D.state dumps.new)) }
     ensures enough { IfOk result (λ heap. (all : List Cell)
-        → W.has_lines whole.now (D.state dumps.old).now all
+        → HasLines whole.now (D.state dumps.old).now all
         → IsEnoughFor all heap.cells (map element roots.now) budget) }
-    ensures enc { IfOk result (λ heap. heap.enc ≡ W.written whole.now) }
+    ensures enc { IfOk result (λ heap. heap.enc ≡ whole.now.enc) }
 {
     part_is_enough();
-    let bounds = Bounds {
+    let from = Source {
+        lines: whole,
         bytes: whole.size_within(limits.section()) as usize,
         nodes: budget,
         leads: limits.dense(),
     };
     let mut g = Gathered::new(alloc);
-    gather_roots(alloc, whole, dumps, roots, &bounds, &mut g)?;
-    let heap = heap_of(alloc, g.lines, whole.enc(), limits)?;
+    gather_roots(alloc, &from, dumps, roots, &mut g)?;
+    let heap = heap_of(alloc, g.lines, whole.enc, limits)?;
     let gap = has_gap(alloc, &heap, roots, budget, whole)?;
     if gap {
         return Err(ReadFault::Memory);

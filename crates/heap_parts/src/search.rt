@@ -1,17 +1,14 @@
 // Gathering the lines that a root needs: the walk that unfolds it, over lines that are gathered as it comes to them.
 ghost use Rattle.std.specs.Prelude.{◌≡◌, OnOk, IfErr};
 ghost use Rattle.dump_io.specs.Faults.{IsReadCauseOf};
-ghost use Rattle.heap_parts.specs.Inner.Growing.{Grows};
-ghost use Rattle.heap_parts.specs.Firsts.{MayGrow, ReadsLines};
+ghost use Rattle.heap_parts.specs.Inner.Growing.{Grows, MayGather, ReadsLines};
 
-use crate::gathered::{Bounds, Gathered, Gist, follow, line_of};
-use crate::lines::WholeHeap;
-use crate::rules::{are_keys, item_node, term_node};
+use crate::gathered::{Gathered, Gist, Source, follow, line_of};
 use dump_io::{Dumps, ReadFault};
 use heap_cells::Kind;
 use std::alloc::{AllocError, Global};
 use term_forms::shapes::Elem;
-use term_unfold::NodeKind;
+use term_unfold::{NodeKind, TermKind, are_keys, item_kind, term_kind};
 
 // A line that the search is in: what its cell is there, and the place of its next child.
 #[derive(Clone, Copy)]
@@ -129,21 +126,19 @@ fn child_at(g: &Gathered, entry: Entry) -> Option<Child> {
 }
 
 // Whether the keys of a flat map are available.
-fn has_keys<W: WholeHeap, D: Dumps>(
-    whole: &W,
+fn has_keys<D: Dumps>(
+    from: &Source<'_>,
     dumps: &mut D,
     line: usize,
     gist: &Gist,
-    bounds: &Bounds,
     g: &mut Gathered,
     search: &Search,
 ) -> Result<bool, ReadFault>
-    requires over { W.serves whole.now (D.state dumps.old).now }
-    requires room { MayGrow bounds.now.bytes g.old.lines.items }
-    ensures reads { ReadsLines (D.state dumps.old) (D.state dumps.new) bounds.now.bytes g.old.lines.items }
+    requires { MayGather from.now (D.state dumps.old).now g.old.lines.items }
+    ensures reads { ReadsLines (D.state dumps.old) (D.state dumps.new) from.now.bytes g.old.lines.items }
     ensures fault { IfErr result (IsReadCauseOf (D.state dumps.old) (D.state dumps.new)) }
-    ensures grows { OnOk result (Grows (W.has_lines whole.now) (W.written whole.now) bounds.now.bytes
-        (D.state dumps.old) (D.state dumps.new) g.old.lines.items g.new.lines.items) }
+    ensures grows { OnOk result (Grows from.now (D.state dumps.old) (D.state dumps.new)
+        g.old.lines.items g.new.lines.items) }
 {
     if gist.elements < 2 {
         return Ok(true);
@@ -151,7 +146,7 @@ fn has_keys<W: WholeHeap, D: Dumps>(
     let Some(lead) = g.lead_of(line, 0) else {
         return Ok(false);
     };
-    let Some(keys) = follow(whole, dumps, lead, bounds, g)? else {
+    let Some(keys) = follow(from, dumps, lead, g)? else {
         return Ok(false);
     };
     if keys == line || search.is_in(keys) {
@@ -164,20 +159,18 @@ fn has_keys<W: WholeHeap, D: Dumps>(
 }
 
 // Gathers the line of the binary of which a cell is a part, if it is one.
-fn gather_binary<W: WholeHeap, D: Dumps>(
-    whole: &W,
+fn gather_binary<D: Dumps>(
+    from: &Source<'_>,
     dumps: &mut D,
     line: usize,
     gist: &Gist,
-    bounds: &Bounds,
     g: &mut Gathered,
 ) -> Result<(), ReadFault>
-    requires over { W.serves whole.now (D.state dumps.old).now }
-    requires room { MayGrow bounds.now.bytes g.old.lines.items }
-    ensures reads { ReadsLines (D.state dumps.old) (D.state dumps.new) bounds.now.bytes g.old.lines.items }
+    requires { MayGather from.now (D.state dumps.old).now g.old.lines.items }
+    ensures reads { ReadsLines (D.state dumps.old) (D.state dumps.new) from.now.bytes g.old.lines.items }
     ensures fault { IfErr result (IsReadCauseOf (D.state dumps.old) (D.state dumps.new)) }
-    ensures grows { OnOk result (Grows (W.has_lines whole.now) (W.written whole.now) bounds.now.bytes
-        (D.state dumps.old) (D.state dumps.new) g.old.lines.items g.new.lines.items) }
+    ensures grows { OnOk result (Grows from.now (D.state dumps.old) (D.state dumps.new)
+        g.old.lines.items g.new.lines.items) }
 {
     if !matches!(gist.kind, Some(Kind::SubBin)) {
         return Ok(());
@@ -185,28 +178,26 @@ fn gather_binary<W: WholeHeap, D: Dumps>(
     let Some(lead) = g.lead_of(line, 0) else {
         return Ok(());
     };
-    follow(whole, dumps, lead, bounds, g)?;
+    follow(from, dumps, lead, g)?;
     Ok(())
 }
 
 // Enters a flat map that the search isn't in, if its keys are available.
-fn open_flat<W: WholeHeap, D: Dumps>(
-    whole: &W,
+fn open_flat<D: Dumps>(
+    from: &Source<'_>,
     dumps: &mut D,
     line: usize,
     gist: &Gist,
-    bounds: &Bounds,
     g: &mut Gathered,
     search: &mut Search,
 ) -> Result<(), ReadFault>
-    requires over { W.serves whole.now (D.state dumps.old).now }
-    requires room { MayGrow bounds.now.bytes g.old.lines.items }
-    ensures reads { ReadsLines (D.state dumps.old) (D.state dumps.new) bounds.now.bytes g.old.lines.items }
+    requires { MayGather from.now (D.state dumps.old).now g.old.lines.items }
+    ensures reads { ReadsLines (D.state dumps.old) (D.state dumps.new) from.now.bytes g.old.lines.items }
     ensures fault { IfErr result (IsReadCauseOf (D.state dumps.old) (D.state dumps.new)) }
-    ensures grows { OnOk result (Grows (W.has_lines whole.now) (W.written whole.now) bounds.now.bytes
-        (D.state dumps.old) (D.state dumps.new) g.old.lines.items g.new.lines.items) }
+    ensures grows { OnOk result (Grows from.now (D.state dumps.old) (D.state dumps.new)
+        g.old.lines.items g.new.lines.items) }
 {
-    if !has_keys(whole, dumps, line, gist, bounds, g, search)? {
+    if !has_keys(from, dumps, line, gist, g, search)? {
         return Ok(());
     }
     search.enter(line, NodeKind::Flat, g.count())?;
@@ -215,48 +206,42 @@ fn open_flat<W: WholeHeap, D: Dumps>(
 
 // Opens the cell of a line that the search isn't in, as a term: gathers
 // what it needs beside its line, and enters it if it is a node.
-fn open_term<W: WholeHeap, D: Dumps>(
-    whole: &W,
+fn open_term<D: Dumps>(
+    from: &Source<'_>,
     dumps: &mut D,
     line: usize,
     gist: &Gist,
-    bounds: &Bounds,
     g: &mut Gathered,
     search: &mut Search,
 ) -> Result<(), ReadFault>
-    requires over { W.serves whole.now (D.state dumps.old).now }
-    requires room { MayGrow bounds.now.bytes g.old.lines.items }
-    ensures reads { ReadsLines (D.state dumps.old) (D.state dumps.new) bounds.now.bytes g.old.lines.items }
+    requires { MayGather from.now (D.state dumps.old).now g.old.lines.items }
+    ensures reads { ReadsLines (D.state dumps.old) (D.state dumps.new) from.now.bytes g.old.lines.items }
     ensures fault { IfErr result (IsReadCauseOf (D.state dumps.old) (D.state dumps.new)) }
-    ensures grows { OnOk result (Grows (W.has_lines whole.now) (W.written whole.now) bounds.now.bytes
-        (D.state dumps.old) (D.state dumps.new) g.old.lines.items g.new.lines.items) }
+    ensures grows { OnOk result (Grows from.now (D.state dumps.old) (D.state dumps.new)
+        g.old.lines.items g.new.lines.items) }
 {
-    let Some(kind) = term_node(gist.kind) else {
-        return gather_binary(whole, dumps, line, gist, bounds, g);
-    };
-    if matches!(kind, NodeKind::Flat) {
-        return open_flat(whole, dumps, line, gist, bounds, g, search);
+    match term_kind(gist.kind) {
+        TermKind::Leaf => gather_binary(from, dumps, line, gist, g),
+        TermKind::Node(kind) => Ok(search.enter(line, kind, g.count())?),
+        TermKind::Flat => open_flat(from, dumps, line, gist, g, search),
+        TermKind::Malformed => Ok(()),
     }
-    search.enter(line, kind, g.count())?;
-    Ok(())
 }
 
 // Opens the cell of a line, unless the search is in it.
-fn open_line<W: WholeHeap, D: Dumps>(
-    whole: &W,
+fn open_line<D: Dumps>(
+    from: &Source<'_>,
     dumps: &mut D,
     line: usize,
     is_item: bool,
-    bounds: &Bounds,
     g: &mut Gathered,
     search: &mut Search,
 ) -> Result<(), ReadFault>
-    requires over { W.serves whole.now (D.state dumps.old).now }
-    requires room { MayGrow bounds.now.bytes g.old.lines.items }
-    ensures reads { ReadsLines (D.state dumps.old) (D.state dumps.new) bounds.now.bytes g.old.lines.items }
+    requires { MayGather from.now (D.state dumps.old).now g.old.lines.items }
+    ensures reads { ReadsLines (D.state dumps.old) (D.state dumps.new) from.now.bytes g.old.lines.items }
     ensures fault { IfErr result (IsReadCauseOf (D.state dumps.old) (D.state dumps.new)) }
-    ensures grows { OnOk result (Grows (W.has_lines whole.now) (W.written whole.now) bounds.now.bytes
-        (D.state dumps.old) (D.state dumps.new) g.old.lines.items g.new.lines.items) }
+    ensures grows { OnOk result (Grows from.now (D.state dumps.old) (D.state dumps.new)
+        g.old.lines.items g.new.lines.items) }
 {
     let Some(gist) = g.gist(line) else {
         return Ok(());
@@ -265,103 +250,95 @@ fn open_line<W: WholeHeap, D: Dumps>(
         return Ok(());
     }
     if !is_item {
-        return open_term(whole, dumps, line, &gist, bounds, g, search);
+        return open_term(from, dumps, line, &gist, g, search);
     }
-    if let Some(kind) = item_node(gist.kind) {
+    if let Some(kind) = item_kind(gist.kind) {
         search.enter(line, kind, g.count())?;
     }
     Ok(())
 }
 
 // Visits a child: gathers its line, if there is one, and opens it.
-fn visit<W: WholeHeap, D: Dumps>(
-    whole: &W,
+fn visit<D: Dumps>(
+    from: &Source<'_>,
     dumps: &mut D,
     child: Child,
-    bounds: &Bounds,
     g: &mut Gathered,
     search: &mut Search,
 ) -> Result<(), ReadFault>
-    requires over { W.serves whole.now (D.state dumps.old).now }
-    requires room { MayGrow bounds.now.bytes g.old.lines.items }
-    ensures reads { ReadsLines (D.state dumps.old) (D.state dumps.new) bounds.now.bytes g.old.lines.items }
+    requires { MayGather from.now (D.state dumps.old).now g.old.lines.items }
+    ensures reads { ReadsLines (D.state dumps.old) (D.state dumps.new) from.now.bytes g.old.lines.items }
     ensures fault { IfErr result (IsReadCauseOf (D.state dumps.old) (D.state dumps.new)) }
-    ensures grows { OnOk result (Grows (W.has_lines whole.now) (W.written whole.now) bounds.now.bytes
-        (D.state dumps.old) (D.state dumps.new) g.old.lines.items g.new.lines.items) }
+    ensures grows { OnOk result (Grows from.now (D.state dumps.old) (D.state dumps.new)
+        g.old.lines.items g.new.lines.items) }
 {
-    match follow(whole, dumps, child.lead, bounds, g)? {
-        Some(line) => open_line(whole, dumps, line, child.is_item, bounds, g, search),
+    match follow(from, dumps, child.lead, g)? {
+        Some(line) => open_line(from, dumps, line, child.is_item, g, search),
         None => Ok(()),
     }
 }
 
 // Visits what comes after the root, within the nodes that it has beside itself.
-fn visit_all<W: WholeHeap, D: Dumps>(
-    whole: &W,
+fn visit_all<D: Dumps>(
+    from: &Source<'_>,
     dumps: &mut D,
-    bounds: &Bounds,
     g: &mut Gathered,
     search: &mut Search,
 ) -> Result<(), ReadFault>
-    requires over { W.serves whole.now (D.state dumps.old).now }
-    requires room { MayGrow bounds.now.bytes g.old.lines.items }
-    ensures reads { ReadsLines (D.state dumps.old) (D.state dumps.new) bounds.now.bytes g.old.lines.items }
+    requires { MayGather from.now (D.state dumps.old).now g.old.lines.items }
+    ensures reads { ReadsLines (D.state dumps.old) (D.state dumps.new) from.now.bytes g.old.lines.items }
     ensures fault { IfErr result (IsReadCauseOf (D.state dumps.old) (D.state dumps.new)) }
-    ensures grows { OnOk result (Grows (W.has_lines whole.now) (W.written whole.now) bounds.now.bytes
-        (D.state dumps.old) (D.state dumps.new) g.old.lines.items g.new.lines.items) }
+    ensures grows { OnOk result (Grows from.now (D.state dumps.old) (D.state dumps.new)
+        g.old.lines.items g.new.lines.items) }
 {
-    for _ in 1..bounds.nodes {
+    for _ in 1..from.nodes {
         let Some(child) = search.next_child(g) else {
             return Ok(());
         };
-        visit(whole, dumps, child, bounds, g, search)?;
+        visit(from, dumps, child, g, search)?;
     }
     Ok(())
 }
 
 // Gathers what the first nodes of a root need whose line was gathered.
-fn gather_from<W: WholeHeap, D: Dumps>(
-    whole: &W,
+fn gather_from<D: Dumps>(
+    from: &Source<'_>,
     dumps: &mut D,
     line: usize,
-    bounds: &Bounds,
     g: &mut Gathered,
     search: &mut Search,
 ) -> Result<(), ReadFault>
-    requires over { W.serves whole.now (D.state dumps.old).now }
-    requires room { MayGrow bounds.now.bytes g.old.lines.items }
-    ensures reads { ReadsLines (D.state dumps.old) (D.state dumps.new) bounds.now.bytes g.old.lines.items }
+    requires { MayGather from.now (D.state dumps.old).now g.old.lines.items }
+    ensures reads { ReadsLines (D.state dumps.old) (D.state dumps.new) from.now.bytes g.old.lines.items }
     ensures fault { IfErr result (IsReadCauseOf (D.state dumps.old) (D.state dumps.new)) }
-    ensures grows { OnOk result (Grows (W.has_lines whole.now) (W.written whole.now) bounds.now.bytes
-        (D.state dumps.old) (D.state dumps.new) g.old.lines.items g.new.lines.items) }
+    ensures grows { OnOk result (Grows from.now (D.state dumps.old) (D.state dumps.new)
+        g.old.lines.items g.new.lines.items) }
 {
-    open_line(whole, dumps, line, false, bounds, g, search)?;
-    visit_all(whole, dumps, bounds, g, search)
+    open_line(from, dumps, line, false, g, search)?;
+    visit_all(from, dumps, g, search)
 }
 
 /// Gathers the lines that the first nodes of a root need. The search is in no line before and after it.
-pub(crate) fn gather_root<W: WholeHeap, D: Dumps>(
-    whole: &W,
+pub(crate) fn gather_root<D: Dumps>(
+    from: &Source<'_>,
     dumps: &mut D,
     root: &Elem<'_>,
-    bounds: &Bounds,
     g: &mut Gathered,
     search: &mut Search,
 ) -> Result<(), ReadFault>
-    requires over { W.serves whole.now (D.state dumps.old).now }
-    requires room { MayGrow bounds.now.bytes g.old.lines.items }
-    ensures reads { ReadsLines (D.state dumps.old) (D.state dumps.new) bounds.now.bytes g.old.lines.items }
+    requires { MayGather from.now (D.state dumps.old).now g.old.lines.items }
+    ensures reads { ReadsLines (D.state dumps.old) (D.state dumps.new) from.now.bytes g.old.lines.items }
     ensures fault { IfErr result (IsReadCauseOf (D.state dumps.old) (D.state dumps.new)) }
-    ensures grows { OnOk result (Grows (W.has_lines whole.now) (W.written whole.now) bounds.now.bytes
-        (D.state dumps.old) (D.state dumps.new) g.old.lines.items g.new.lines.items) }
+    ensures grows { OnOk result (Grows from.now (D.state dumps.old) (D.state dumps.new)
+        g.old.lines.items g.new.lines.items) }
 {
     let Elem::Ref(addr) = root else {
         return Ok(());
     };
-    let Some(line) = line_of(whole, dumps, *addr, bounds, g)? else {
+    let Some(line) = line_of(from, dumps, *addr, g)? else {
         return Ok(());
     };
-    gather_from(whole, dumps, line, bounds, g, search)?;
+    gather_from(from, dumps, line, g, search)?;
     search.clear();
     Ok(())
 }

@@ -3,8 +3,7 @@ ghost use Rattle.std.specs.Prelude.{◌<◌};
 
 use dump_io::{Limits, MemDumps};
 use heap_cells::{Heap, Kind, Seat};
-use heap_lines::HeapLines;
-use heap_parts::load_part;
+use heap_parts::{HeapLines, load_part};
 use section_index::build;
 use std::alloc::{AllocError, Global};
 use std::process::Abort;

@@ -9,23 +9,24 @@ use Rattle.std.proofs.lemmas.Option.{slice_get-map, slice_get-get_or, unwrap_or-
 use Rattle.std.proofs.lemmas.List.Sums.{position_or_len_is, prefix_len_passes}
 use Rattle.std.specs.Cmp.{nat_eq_equiv}
 use Rattle.term_forms.specs.Elements.{Element, Nil, Ref}
-use Rattle.term_forms.specs.Forms.{HeapForm, Cons, Tuple, Float, Long, Pid as PidForm, Port as PortForm, Ext, HeapBin, RefBin, SubBin, Flat, Hash, Node}
+use Rattle.term_forms.specs.Forms.{HeapForm, Cons, Tuple, Flat, Hash, Node}
 use Rattle.heap_cells.specs.Cells.{Cell, addresses, elements_in, kind_of}
 use Rattle.cell_records.specs.declared.cells.Kind.{Kind}
 use Rattle.cell_records.specs.declared.cells.Kind.TheVariants as cell_kind
-use Rattle.cell_records.specs.declared.cells.Why.{Why}
 use Rattle.cell_records.specs.declared.cells.Why.TheVariants.{Missing, Malformed, OnPath}
-use Rattle.heap_cells.specs.HeapMap.{HeapMap, number_at, form_at}
+use Rattle.heap_cells.specs.HeapMap.{HeapMap, number_at, form_at, elements_at}
 use Rattle.heap_cells.specs.Targets.{Imm, At, number, target}
 use Rattle.term_unfold.proofs.Targets.{leads-at, leads-nowhere}
-use Rattle.term_unfold.specs.Inner.Maps.{form_keys}
-use Rattle.term_unfold.specs.Maps.{keys_at, bad_keys, cell_keys, element_keys, pair_at, inner_at, cell_member, member_of, address_of, form_at_address}
+use Rattle.term_unfold.specs.Kinds.{are_keys, item_kind, term_kind}
+use Rattle.term_unfold.specs.declared.kinds.TermKind.TheVariants as term
+use Rattle.term_unfold.specs.Maps.{Keys, no_keys, keys_at, bad_keys, keys_of_map, cell_keys, element_keys, cell_member, member_of, address_of, form_at_address}
+use Rattle.term_unfold.specs.declared.node.NodeKind.{NodeKind}
 use Rattle.term_unfold.specs.declared.node.NodeKind.TheVariants as kinds
 use Rattle.term_unfold.specs.declared.path.Entry.{Entry}
-use Rattle.term_unfold.specs.Inner.Entries.{Entered, numbers_of, path_of, IsLine}
+use Rattle.term_unfold.specs.Inner.Entries.{Entered, numbers_of, path_of, is_item, IsLine}
 use Rattle.term_unfold.specs.declared.openings.Opened.{Opened}
 use Rattle.term_unfold.specs.declared.openings.Opened.TheVariants as opened
-use Rattle.term_unfold.specs.Inner.Children.{members_in, found_elements, flat_children}
+use Rattle.term_unfold.specs.Inner.Children.{children_of, members_in, found_elements, flat_children}
 use Rattle.term_unfold.specs.Inner.Openings.{is_leaf_form, Opens}
 use Rattle.term_unfold.specs.Rules.{Term, Item, leaf, bad, node, is_on, unless_on, terms, items, pairs, keyed, cell_opening, term_opening, item_opening, opening}
 use Rattle.term_unfold.specs.Trees.{OfCell}
@@ -175,29 +176,45 @@ term-at heap path n off distinct within =
 
 -- the openings of forms, by their kinds
 
-pub form-none : (heap : List Cell) (path : List ℕ) (a : ℕ) (form : Option HeapForm) → option_map kind_of form ≡ None → cell_opening heap path a (Some form) ≡ bad a Malformed
-form-none heap path a None h = refl
-form-none heap path a (Some form) h = cc
-
-pub form-list : (heap : List Cell) (path : List ℕ) (a : ℕ) (form : Option HeapForm) → option_map kind_of form ≡ Some cell_kind.List → cell_opening heap path a (Some form) ≡ node a kinds.Cons (terms (take 2 (elements_in form)))
+form-list : (heap : List Cell) (path : List ℕ) (a : ℕ) (form : Option HeapForm) → option_map kind_of form ≡ Some cell_kind.List → cell_opening heap path a (Some form) ≡ node a kinds.Cons (terms (take 2 (elements_in form)))
 form-list heap path a None h = cc
 form-list heap path a (Some (Cons head tail)) h = refl
 form-list heap path a (Some form) h = cc
 
-pub form-tuple : (heap : List Cell) (path : List ℕ) (a : ℕ) (form : Option HeapForm) → option_map kind_of form ≡ Some cell_kind.Tuple → cell_opening heap path a (Some form) ≡ node a kinds.Tuple (terms (elements_in form))
+form-tuple : (heap : List Cell) (path : List ℕ) (a : ℕ) (form : Option HeapForm) → option_map kind_of form ≡ Some cell_kind.Tuple → cell_opening heap path a (Some form) ≡ node a kinds.Tuple (terms (elements_in form))
 form-tuple heap path a None h = cc
 form-tuple heap path a (Some (Tuple elements)) h = refl
 form-tuple heap path a (Some form) h = cc
 
-pub form-hash : (heap : List Cell) (path : List ℕ) (a : ℕ) (form : Option HeapForm) → option_map kind_of form ≡ Some cell_kind.Hash → cell_opening heap path a (Some form) ≡ node a kinds.Hash (items a (members_in form))
+form-hash : (heap : List Cell) (path : List ℕ) (a : ℕ) (form : Option HeapForm) → option_map kind_of form ≡ Some cell_kind.Hash → cell_opening heap path a (Some form) ≡ node a kinds.Hash (items a (members_in form))
 form-hash heap path a None h = cc
 form-hash heap path a (Some (Hash size children)) h = refl
 form-hash heap path a (Some form) h = cc
 
-pub form-node : (heap : List Cell) (path : List ℕ) (a : ℕ) (form : Option HeapForm) → option_map kind_of form ≡ Some cell_kind.Node → cell_opening heap path a (Some form) ≡ bad a Malformed
-form-node heap path a None h = cc
-form-node heap path a (Some (Node children)) h = refl
-form-node heap path a (Some form) h = cc
+-- a cell that is a node as a term
+pub record IsTermNode (heap : List Cell) (path : List ℕ) (n : ℕ) (kind : NodeKind) : Type 0 where
+  pub fits : is_item kind ≡ false
+  pub opens : cell_opening heap path (address_of heap n) (Some (form_at heap n)) ≡ node (address_of heap n) kind (children_of heap kind n)
+
+pub node-opens : (heap : List Cell) (path : List ℕ) (n : ℕ) (found : Option Kind) (kind : NodeKind) → option_map kind_of (form_at heap n) ≡ found → term_kind found ≡ term.Node kind → IsTermNode heap path n kind
+node-opens heap path n None kind is h = cc
+node-opens heap path n (Some cell_kind.List) kind is h =
+    let same : kinds.Cons ≡ kind = cc in subst (IsTermNode heap path n) same (record { fits = refl; opens = form-list heap path (address_of heap n) (form_at heap n) is })
+node-opens heap path n (Some cell_kind.Tuple) kind is h =
+    let same : kinds.Tuple ≡ kind = cc in subst (IsTermNode heap path n) same (record { fits = refl; opens = form-tuple heap path (address_of heap n) (form_at heap n) is })
+node-opens heap path n (Some cell_kind.Hash) kind is h =
+    let same : kinds.Hash ≡ kind = cc in subst (IsTermNode heap path n) same (record { fits = refl; opens = form-hash heap path (address_of heap n) (form_at heap n) is })
+node-opens heap path n (Some found) kind is h = cc
+
+pub malformed-opens : (heap : List Cell) (path : List ℕ) (a : ℕ) (form : Option HeapForm) → term_kind (option_map kind_of form) ≡ term.Malformed → cell_opening heap path a (Some form) ≡ bad a Malformed
+malformed-opens heap path a None h = refl
+malformed-opens heap path a (Some (Node children)) h = refl
+malformed-opens heap path a (Some form) h = cc
+
+pub flat-kind : (found : Option Kind) → term_kind found ≡ term.Flat → found ≡ Some cell_kind.Flat
+flat-kind None h = cc
+flat-kind (Some cell_kind.Flat) h = refl
+flat-kind (Some found) h = cc
 
 -- a form that has no children
 pub record IsLeafForm (heap : List Cell) (path : List ℕ) (a : ℕ) (form : Option HeapForm) : Type 0 where
@@ -206,22 +223,14 @@ pub record IsLeafForm (heap : List Cell) (path : List ℕ) (a : ℕ) (form : Opt
   pub is_leaf : is_leaf_form leaf_form ≡ true
   pub opens : cell_opening heap path a (Some form) ≡ leaf (OfCell a leaf_form)
 
-pub form-leaf : (heap : List Cell) (path : List ℕ) (a : ℕ) (kind : Kind) (form : Option HeapForm) → option_map kind_of form ≡ Some kind → (kind ≡ cell_kind.List → ⊥) → (kind ≡ cell_kind.Tuple → ⊥)
-    → (kind ≡ cell_kind.Flat → ⊥) → (kind ≡ cell_kind.Hash → ⊥) → (kind ≡ cell_kind.Node → ⊥) → IsLeafForm heap path a form
-form-leaf heap path a kind None h l t f m n = cc
-form-leaf heap path a kind (Some (Cons head tail)) h l t f m n = let is : kind ≡ cell_kind.List = cc in absurd (l is)
-form-leaf heap path a kind (Some (Tuple elements)) h l t f m n = let is : kind ≡ cell_kind.Tuple = cc in absurd (t is)
-form-leaf heap path a kind (Some (Flat keys values)) h l t f m n = let is : kind ≡ cell_kind.Flat = cc in absurd (f is)
-form-leaf heap path a kind (Some (Hash size children)) h l t f m n = let is : kind ≡ cell_kind.Hash = cc in absurd (m is)
-form-leaf heap path a kind (Some (Node children)) h l t f m n = let is : kind ≡ cell_kind.Node = cc in absurd (n is)
-form-leaf heap path a kind (Some (Float bytes)) h l t f m n = record { leaf_form = Float bytes; form_is = refl; is_leaf = refl; opens = refl }
-form-leaf heap path a kind (Some (Long number)) h l t f m n = record { leaf_form = Long number; form_is = refl; is_leaf = refl; opens = refl }
-form-leaf heap path a kind (Some (PidForm pid)) h l t f m n = record { leaf_form = PidForm pid; form_is = refl; is_leaf = refl; opens = refl }
-form-leaf heap path a kind (Some (PortForm port)) h l t f m n = record { leaf_form = PortForm port; form_is = refl; is_leaf = refl; opens = refl }
-form-leaf heap path a kind (Some (Ext size chars)) h l t f m n = record { leaf_form = Ext size chars; form_is = refl; is_leaf = refl; opens = refl }
-form-leaf heap path a kind (Some (HeapBin size chars)) h l t f m n = record { leaf_form = HeapBin size chars; form_is = refl; is_leaf = refl; opens = refl }
-form-leaf heap path a kind (Some (RefBin address offset size)) h l t f m n = record { leaf_form = RefBin address offset size; form_is = refl; is_leaf = refl; opens = refl }
-form-leaf heap path a kind (Some (SubBin address offset size)) h l t f m n = record { leaf_form = SubBin address offset size; form_is = refl; is_leaf = refl; opens = refl }
+pub leaf-opens : (heap : List Cell) (path : List ℕ) (a : ℕ) (form : Option HeapForm) → term_kind (option_map kind_of form) ≡ term.Leaf → IsLeafForm heap path a form
+leaf-opens heap path a None h = cc
+leaf-opens heap path a (Some (Cons head tail)) h = cc
+leaf-opens heap path a (Some (Tuple elements)) h = cc
+leaf-opens heap path a (Some (Flat keys values)) h = cc
+leaf-opens heap path a (Some (Hash size children)) h = cc
+leaf-opens heap path a (Some (Node children)) h = cc
+leaf-opens heap path a (Some form) h = record { leaf_form = form; form_is = refl; is_leaf = refl; opens = refl }
 
 -- flat maps
 
@@ -232,6 +241,11 @@ pairs-none (k ∷ ks) = refl
 flat-alone : (heap : List Cell) (keys : Element) → flat_children heap (keys ∷ []) ≡ []
 flat-alone heap (Ref k) = pairs-none (found_elements (form_at_address heap k))
 flat-alone heap keys = refl
+
+-- the keys of a form, if it is that of a flat map
+abbrev form_keys : List Cell → ℕ → Option HeapForm → Keys
+form_keys heap map (Some (Flat keys values)) = keys_of_map heap map keys values
+form_keys heap map form = no_keys
 
 pub flat-empty : (heap : List Cell) (path : List ℕ) (a : ℕ) (form : Option HeapForm) → option_map kind_of form ≡ Some cell_kind.Flat → length (elements_in form) < 2
     → cell_opening heap path a (Some form) ≡ node a kinds.Flat (flat_children heap (elements_in form))
@@ -288,60 +302,80 @@ flat-missing heap path a b form h some is off none =
     flat-ref heap path a b form None h some is none
     ∙ ap (λ x. cond x (bad b OnPath) (bad b Missing)) off
 
-tuple-size : (x : Bool) (b c : ℕ) (elements ks : List Element) → cond x (keys_at b elements) (bad_keys b Malformed) ≡ keys_at c ks → elements ≡ ks
-tuple-size true b c elements ks h = cc
-tuple-size false b c elements ks h = cc
+-- a cell that holds the keys, and one that doesn't
+keys-fit : (b size : ℕ) (form : Option HeapForm) → are_keys (option_map kind_of form) (length (elements_in form)) size ≡ true → cell_keys b size (Some form) ≡ keys_at b (elements_in form)
+keys-fit b size None h = cc
+keys-fit b size (Some (Tuple elements)) h = ap (λ x. cond x (keys_at b elements) (bad_keys b Malformed)) h
+keys-fit b size (Some form) h = cc
 
-tuple-keys-at : (b size : ℕ) (form : Option HeapForm) (c : ℕ) (ks : List Element) → cell_keys b size (Some form) ≡ keys_at c ks → elements_in form ≡ ks
-tuple-keys-at b size None c ks h = cc
-tuple-keys-at b size (Some (Tuple elements)) c ks h = tuple-size (eqb (length elements) size) b c elements ks h
-tuple-keys-at b size (Some form) c ks h = cc
+keys-unfit : (b size : ℕ) (form : Option HeapForm) → are_keys (option_map kind_of form) (length (elements_in form)) size ≡ false → cell_keys b size (Some form) ≡ bad_keys b Malformed
+keys-unfit b size None h = refl
+keys-unfit b size (Some (Tuple elements)) h = ap (λ x. cond x (keys_at b elements) (bad_keys b Malformed)) h
+keys-unfit b size (Some form) h = refl
 
--- the keys are those of the tuple to which the keys element refers
--- the keys of a flat map with values, from the cell to which its keys element refers
-keys-at : (heap : List Cell) (a k : ℕ) (form : Option HeapForm) → option_map kind_of form ≡ Some cell_kind.Flat → 2 ≤ length (elements_in form)
-    → target heap (get_or (elements_in form) 0 Nil) ≡ At k → form_keys heap a form ≡ cell_keys (address_of heap k) (length (elements_in form) - 1) (Some (form_at heap k))
-keys-at heap a k form h some leads =
-    let to = leads-at heap k (get_or (elements_in form) 0 Nil) leads in
-    let size = length (elements_in form) - 1 in
-    keys-some heap a form h some ∙ ap (element_keys heap a size) to.element ∙ ap (cell_keys (address_of heap k) size) to.form
-
-pub flat-keyed : (heap : List Cell) (path : List ℕ) (a k c : ℕ) (ks : List Element) (form : Option HeapForm) → option_map kind_of form ≡ Some cell_kind.Flat → 2 ≤ length (elements_in form)
+-- the keys element refers to a cell that isn't an ancestor
+flat-found : (heap : List Cell) (path : List ℕ) (a k : ℕ) (form : Option HeapForm) → option_map kind_of form ≡ Some cell_kind.Flat → 2 ≤ length (elements_in form)
     → target heap (get_or (elements_in form) 0 Nil) ≡ At k → is_on (address_of heap k) (a ∷ path) ≡ false
-    → cell_keys (address_of heap k) (length (elements_in form) - 1) (Some (form_at heap k)) ≡ keys_at c ks
-    → cell_opening heap path a (Some form) ≡ node a kinds.Flat (flat_children heap (elements_in form))
-flat-keyed heap path a k c ks form h some leads off keys =
+    → cell_opening heap path a (Some form) ≡ keyed a (drop 1 (elements_in form)) (cell_keys (address_of heap k) (length (elements_in form) - 1) (Some (form_at heap k)))
+flat-found heap path a k form h some leads off =
+    let b = address_of heap k in
     let to = leads-at heap k (get_or (elements_in form) 0 Nil) leads in
+    flat-ref heap path a b form (Some (form_at heap k)) h some to.element to.form
+    ∙ ap (λ x. cond x (bad b OnPath) (keyed a (drop 1 (elements_in form)) (cell_keys b (length (elements_in form) - 1) (Some (form_at heap k))))) off
+
+pub flat-keyed : (heap : List Cell) (path : List ℕ) (a k : ℕ) (form : Option HeapForm) → option_map kind_of form ≡ Some cell_kind.Flat → 2 ≤ length (elements_in form)
+    → target heap (get_or (elements_in form) 0 Nil) ≡ At k → is_on (address_of heap k) (a ∷ path) ≡ false
+    → are_keys (option_map kind_of (form_at heap k)) (length (elements_at heap k)) (length (elements_in form) - 1) ≡ true
+    → cell_opening heap path a (Some form) ≡ node a kinds.Flat (flat_children heap (elements_in form))
+flat-keyed heap path a k form h some leads off fit =
     let elements = elements_in form in
-    let size = length elements - 1 in
-    flat-ref heap path a (address_of heap k) form (Some (form_at heap k)) h some to.element to.form
-    ∙ ap (λ x. cond x (bad (address_of heap k) OnPath) (keyed a (drop 1 elements) (cell_keys (address_of heap k) size (Some (form_at heap k))))) off
-    ∙ ap (keyed a (drop 1 elements)) keys
-    ∙ ap (λ l. node a kinds.Flat (pairs l (drop 1 elements))) (sym (tuple-keys-at (address_of heap k) size (form_at heap k) c ks keys))
+    flat-found heap path a k form h some leads off
+    ∙ ap (keyed a (drop 1 elements)) (keys-fit (address_of heap k) (length elements - 1) (form_at heap k) fit)
     ∙ ap (node a kinds.Flat) (sym (flat_kids-at heap elements k (omega (arith, some)) leads))
 
-pub flat-bad : (heap : List Cell) (path : List ℕ) (a k c : ℕ) (why : Why) (form : Option HeapForm) → option_map kind_of form ≡ Some cell_kind.Flat → 2 ≤ length (elements_in form)
+pub flat-bad : (heap : List Cell) (path : List ℕ) (a k : ℕ) (form : Option HeapForm) → option_map kind_of form ≡ Some cell_kind.Flat → 2 ≤ length (elements_in form)
     → target heap (get_or (elements_in form) 0 Nil) ≡ At k → is_on (address_of heap k) (a ∷ path) ≡ false
-    → cell_keys (address_of heap k) (length (elements_in form) - 1) (Some (form_at heap k)) ≡ bad_keys c why → cell_opening heap path a (Some form) ≡ bad c why
-flat-bad heap path a k c why form h some leads off keys =
-    let to = leads-at heap k (get_or (elements_in form) 0 Nil) leads in
-    flat-some heap path a form h some
-    ∙ ap (λ x. unless_on (a ∷ path) (get_or (elements_in form) 0 Nil) (keyed a (drop 1 (elements_in form)) x)) (keys-at heap a k form h some leads ∙ keys)
-    ∙ ap (λ e. unless_on (a ∷ path) e (bad c why)) to.element
-    ∙ ap (λ x. cond x (bad (address_of heap k) OnPath) (bad c why)) off
+    → are_keys (option_map kind_of (form_at heap k)) (length (elements_at heap k)) (length (elements_in form) - 1) ≡ false
+    → cell_opening heap path a (Some form) ≡ bad (address_of heap k) Malformed
+flat-bad heap path a k form h some leads off unfit =
+    flat-found heap path a k form h some leads off
+    ∙ ap (keyed a (drop 1 (elements_in form))) (keys-unfit (address_of heap k) (length (elements_in form) - 1) (form_at heap k) unfit)
 
 -- items
 
-pub pair-opens : (a b : ℕ) (k v : Element) (form : Option HeapForm) → cell_member a (Some form) ≡ pair_at b k v → item_opening (cell_member a (Some form)) ≡ node a kinds.Pair (terms (take 2 (elements_in form)))
-pair-opens a b k v None h = cc
-pair-opens a b k v (Some (Cons head tail)) h = refl
-pair-opens a b k v (Some (Tuple elements)) h = cc
-pair-opens a b k v (Some (Node children)) h = cc
-pair-opens a b k v (Some form) h = cc
+item-pair : (a : ℕ) (form : Option HeapForm) → option_map kind_of form ≡ Some cell_kind.List → item_opening (cell_member a (Some form)) ≡ node a kinds.Pair (terms (take 2 (elements_in form)))
+item-pair a None h = cc
+item-pair a (Some (Cons head tail)) h = refl
+item-pair a (Some form) h = cc
 
-pub inner-opens : (a b : ℕ) (es : List Element) (form : Option HeapForm) → cell_member a (Some form) ≡ inner_at b es → item_opening (cell_member a (Some form)) ≡ node a kinds.Inner (items a (members_in form))
-inner-opens a b es None h = cc
-inner-opens a b es (Some (Cons head tail)) h = cc
-inner-opens a b es (Some (Tuple elements)) h = refl
-inner-opens a b es (Some (Node children)) h = refl
-inner-opens a b es (Some form) h = cc
+item-tuple : (a : ℕ) (form : Option HeapForm) → option_map kind_of form ≡ Some cell_kind.Tuple → item_opening (cell_member a (Some form)) ≡ node a kinds.Inner (items a (members_in form))
+item-tuple a None h = cc
+item-tuple a (Some (Tuple elements)) h = refl
+item-tuple a (Some form) h = cc
+
+item-inner : (a : ℕ) (form : Option HeapForm) → option_map kind_of form ≡ Some cell_kind.Node → item_opening (cell_member a (Some form)) ≡ node a kinds.Inner (items a (members_in form))
+item-inner a None h = cc
+item-inner a (Some (Node children)) h = refl
+item-inner a (Some form) h = cc
+
+-- a cell that is a node as an item of a hash map
+pub record IsItemNode (heap : List Cell) (n : ℕ) (kind : NodeKind) : Type 0 where
+  pub fits : is_item kind ≡ true
+  pub opens : item_opening (cell_member (address_of heap n) (Some (form_at heap n))) ≡ node (address_of heap n) kind (children_of heap kind n)
+
+pub item-opens : (heap : List Cell) (n : ℕ) (found : Option Kind) (kind : NodeKind) → option_map kind_of (form_at heap n) ≡ found → item_kind found ≡ Some kind → IsItemNode heap n kind
+item-opens heap n None kind is h = cc
+item-opens heap n (Some cell_kind.List) kind is h =
+    let same : kinds.Pair ≡ kind = cc in subst (IsItemNode heap n) same (record { fits = refl; opens = item-pair (address_of heap n) (form_at heap n) is })
+item-opens heap n (Some cell_kind.Tuple) kind is h =
+    let same : kinds.Inner ≡ kind = cc in subst (IsItemNode heap n) same (record { fits = refl; opens = item-tuple (address_of heap n) (form_at heap n) is })
+item-opens heap n (Some cell_kind.Node) kind is h =
+    let same : kinds.Inner ≡ kind = cc in subst (IsItemNode heap n) same (record { fits = refl; opens = item-inner (address_of heap n) (form_at heap n) is })
+item-opens heap n (Some found) kind is h = cc
+
+pub item-bad : (a : ℕ) (form : Option HeapForm) → item_kind (option_map kind_of form) ≡ None → item_opening (cell_member a (Some form)) ≡ bad a Malformed
+item-bad a None h = refl
+item-bad a (Some (Cons head tail)) h = cc
+item-bad a (Some (Tuple elements)) h = cc
+item-bad a (Some (Node children)) h = cc
+item-bad a (Some form) h = refl

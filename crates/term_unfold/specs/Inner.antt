@@ -2,7 +2,6 @@
 pub mod Coming
 pub mod Entries
 pub mod Children
-pub mod Maps
 pub mod Openings
 pub mod Rest
 pub mod Steps

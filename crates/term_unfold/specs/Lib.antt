@@ -1,5 +1,6 @@
 pub mod DumpWalks
 pub mod Inner
+pub mod Kinds
 pub mod Laws
 pub mod Leaves
 pub mod Maps

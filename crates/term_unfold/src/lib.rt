@@ -16,9 +16,9 @@
 mod children;
 mod gaps;
 mod judging;
+mod kinds;
 mod laws;
 mod leaves;
-mod maps;
 mod node;
 mod openings;
 mod path;
@@ -28,6 +28,7 @@ mod verdict;
 mod walker;
 
 pub use gaps::{Addresses, PartWalker};
+pub use kinds::{TermKind, are_keys, item_kind, term_kind};
 pub use laws::{
     inner_node_is_its_children, part_is_enough, text_is_of_first_nodes, unfolding_is_finite,
 };

@@ -13,7 +13,7 @@ ghost use Rattle.term_unfold.specs.Inner.Openings.{is_entered, item_in, LeadsFro
 ghost use Rattle.term_unfold.specs.Rules.{Term};
 
 use crate::children::Child;
-use crate::maps::{KeysAt, MapChild, keys_in, member};
+use crate::kinds::{TermKind, are_keys, item_kind, term_kind};
 use crate::node::NodeKind;
 use crate::path::Path;
 use heap_cells::{CellIx, Heap, Kind, Seat, Slot, Why};
@@ -71,9 +71,11 @@ fn open_keyed(heap: &Heap, path: &Path, ix: CellIx, keys: CellIx) -> Opened
     if is_open(heap, path, keys) {
         return Opened::Bad(heap.addr(keys), Why::OnPath);
     }
-    match keys_in(heap, keys, heap.kids(ix) - 1) {
-        KeysAt::Keys(_) => Opened::Node(ix, NodeKind::Flat),
-        KeysAt::Bad(addr, why) => Opened::Bad(addr, why),
+    let values = u64::from(heap.kids(ix) - 1);
+    if are_keys(heap.kind(keys), u64::from(heap.kids(keys)), values) {
+        Opened::Node(ix, NodeKind::Flat)
+    } else {
+        Opened::Bad(heap.addr(keys), Why::Malformed)
     }
 }
 
@@ -107,16 +109,11 @@ fn open_cell(heap: &Heap, path: &Path, ix: CellIx) -> Opened
     if is_open(heap, path, ix) {
         return Opened::Bad(heap.addr(ix), Why::OnPath);
     }
-    let Some(kind) = heap.kind(ix) else {
-        return Opened::Bad(heap.addr(ix), Why::Malformed);
-    };
-    match kind {
-        Kind::List => Opened::Node(ix, NodeKind::Cons),
-        Kind::Tuple => Opened::Node(ix, NodeKind::Tuple),
-        Kind::Flat => open_flat(heap, path, ix),
-        Kind::Hash => Opened::Node(ix, NodeKind::Hash),
-        Kind::Node => Opened::Bad(heap.addr(ix), Why::Malformed),
-        _ => Opened::Leaf(ix),
+    match term_kind(heap.kind(ix)) {
+        TermKind::Leaf => Opened::Leaf(ix),
+        TermKind::Node(kind) => Opened::Node(ix, kind),
+        TermKind::Flat => open_flat(heap, path, ix),
+        TermKind::Malformed => Opened::Bad(heap.addr(ix), Why::Malformed),
     }
 }
 
@@ -145,10 +142,9 @@ fn open_member(heap: &Heap, path: &Path, parent: CellIx, place: u32, ix: CellIx)
     if is_open(heap, path, ix) {
         return Opened::Bad(heap.addr(ix), Why::OnPath);
     }
-    match member(heap, ix) {
-        MapChild::Pair(_) => Opened::Node(ix, NodeKind::Pair),
-        MapChild::Inner(_) => Opened::Node(ix, NodeKind::Inner),
-        MapChild::Bad(addr, why) => Opened::Bad(addr, why),
+    match item_kind(heap.kind(ix)) {
+        Some(kind) => Opened::Node(ix, kind),
+        None => Opened::Bad(heap.addr(ix), Why::Malformed),
     }
 }
 

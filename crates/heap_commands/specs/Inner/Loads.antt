@@ -26,8 +26,8 @@ use Rattle.root_views.specs.declared.kinds.RootKind.{RootKind}
 use Rattle.term_text.specs.Reach.{root_elements}
 use Rattle.term_unfold.specs.Parts.{answer_in, has_cell}
 use Rattle.heap_cells.specs.Cells.{first_cells, Cell}
-use Rattle.heap_lines.specs.Wholes.{HasLines}
-use Rattle.heap_lines.specs.declared.whole.HeapLines.{HeapLines}
+use Rattle.heap_parts.specs.Wholes.{HasLines}
+use Rattle.heap_parts.specs.declared.heap_lines.HeapLines.{HeapLines}
 use Rattle.root_views.specs.Shown.{shown_roots, IsPlaced, SomeRoots}
 use Rattle.dump_io.specs.Dumps.{told, DeviceState, IfTold, Now, ReadsAtMost}
 use Rattle.dump_sections.specs.declared.bodies.BodyFault.{BodyFault}

@@ -1,5 +1,5 @@
 use Rattle.std.proofs.Common.{arith, map, subst, sym}
-use Rattle.heap_lines.specs.Wholes.{cells_in, is_known, HasLines}
+use Rattle.heap_parts.specs.Wholes.{cells_in, is_known, HasLines}
 use Rattle.term_forms.specs.Seen.{element}
 use Rattle.heap_commands.specs.Inner.Loads.{GivesPart}
 use Rattle.heap_commands.proofs.PartLoads.{stopped, Gives-lacking, Gives-stopped, Gives-terms}

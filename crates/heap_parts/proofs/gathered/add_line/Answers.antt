@@ -5,7 +5,7 @@ use Rattle.heap_parts.proofs.gathered.add_line.Goals as goal
 
 pub returns-clause-grows : goal.returns-clause-grows
 returns-clause-grows g c =
-    let d = g.D.Dumps in
+    let state = g.D.Dumps.state in
     let one = c.in_ok-push_line.ensures in
-    Grows-pushed (g.W.WholeHeap.has_lines c.args.whole.now) (g.W.WholeHeap.written c.args.whole.now) c.args.bounds.now.bytes (d.state c.args.dumps.now) (d.state c.push_line.new.dumps) c.args.addr
-    c.args.g.now.lines.items c.push_line.new.lines.items _ one.spent one.room one.longer one.pushed (ap (λ (v : Vec ℕ). v.items) c.in_ok-number.ensures)
+    Grows-pushed c.args.from.now (state c.args.dumps.now) (state c.push_line.new.dumps) c.args.addr c.args.g.now.lines.items c.push_line.new.text.items _
+    one.spent one.room one.longer one.pushed (ap (λ (v : Vec ℕ). v.items) c.in_ok-number.ensures)

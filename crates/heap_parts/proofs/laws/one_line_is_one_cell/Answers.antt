@@ -1,4 +1,4 @@
-use Rattle.heap_parts.specs.Laws.Lines.{cells-pushed, whole-pushed}
+use Rattle.heap_parts.proofs.LineFacts.{cells-pushed, whole-pushed}
 use Rattle.heap_parts.proofs.laws.one_line_is_one_cell.Goals as goal
 
 pub returns-clause-cell : goal.returns-clause-cell

@@ -5,5 +5,5 @@ abbrev pub invariant-loop-root : goal.invariant-loop-root
 invariant-loop-root g l =
     let d = g.D.Dumps in
     record {
-      grows : Grows (g.W.WholeHeap.has_lines l.whole) (g.W.WholeHeap.written l.whole) l.bounds.bytes (d.state l.fn.dumps) (d.state l.dumps) l.fn.g.lines.items l.g.lines.items;
+      grows : Grows l.from (d.state l.fn.dumps) (d.state l.dumps) l.fn.g.lines.items l.g.lines.items;
     }

@@ -1,19 +1,19 @@
-use Rattle.std.proofs.Common.{◌≡◌, ℕ, ◌-◌, ◌||◌, List, Some, refl, sym, ◌∙◌, ap}
+use Rattle.std.proofs.Common.{◌≡◌, ℕ, ◌-◌, ◌||◌, Option, refl, sym, ◌∙◌, ap}
 use Rattle.std.proofs.lemmas.Bool.{eq-eqb}
 use Rattle.heap_cells.specs.Targets.{number}
-use Rattle.cell_records.specs.declared.cells.Why.TheVariants.{OnPath}
+use Rattle.cell_records.specs.declared.cells.Why.TheVariants.{Malformed, OnPath}
 use Rattle.term_unfold.proofs.Targets.{address-is}
-use Rattle.heap_cells.specs.Cells.{Cell}
-use Rattle.heap_cells.specs.HeapMap.{form_at}
-use Rattle.term_unfold.specs.Maps.{Keys, address_of, cell_keys}
+use Rattle.cell_records.specs.declared.cells.Kind.{Kind}
+use Rattle.term_unfold.specs.Kinds.{are_keys}
+use Rattle.term_unfold.specs.Maps.{address_of}
 use Rattle.term_unfold.specs.Inner.Entries.{path_of}
 use Rattle.term_unfold.specs.Rules.{bad, is_on}
 use Rattle.term_unfold.proofs.Opens.{on-longer, off-longer, off-other, term-at, flat-on, flat-keyed, flat-bad}
 use Rattle.term_unfold.proofs.openings.open_keyed.Goals as goal
 
--- what the cell with a number gives as the keys of a map of so many elements
-abbrev keys_of_size : List Cell → ℕ → ℕ → Keys
-keys_of_size heap k elements = cell_keys (address_of heap k) (elements - 1) (Some (form_at heap k))
+-- the cell holds the keys, whatever its values are called
+alike : (k l : Option Kind) (m n v w : ℕ) → k ≡ l → m ≡ n → v ≡ w → are_keys l n w ≡ are_keys k m v
+alike k l m n v w kinds counts values = cc
 
 pub returns-then-number : goal.returns-then-number
 returns-then-number c =
@@ -37,20 +37,26 @@ returns-then-is_open c =
       enters = tt;
     }
 
-pub returns-in-Keys : goal.returns-in-Keys
-returns-in-Keys c =
+pub returns-then-are_keys : goal.returns-then-are_keys
+returns-then-are_keys c =
     let others = off-longer _ _ _ (off-other _ _ _ c.requires.serves.bounded.distinct c.requires.keys c.requires.cell
     (λ e. c.if-number.false (c.number.ensures ∙ e ∙ sym c.number-2.ensures))) (sym c.is_open.ensures.on ∙ c.if-is_open.false) in
+    let fit = alike _ _ _ _ _ _ c.kind.ensures (c.from.ensures ∙ c.kids-2.ensures) (c.from-values.ensures ∙ ap (λ n. n - 1) c.kids.ensures) ∙ sym c.are_keys.ensures ∙ c.if-are_keys.true in
     record {
-      found_is = record { cell = c.requires.cell; fits = refl; opens = term-at _ _ _ c.requires.off c.requires.serves.bounded.distinct c.requires.cell ∙ flat-keyed _ _ _ _ _ _ _ c.requires.flat c.requires.some c.requires.leads others (ap (keys_of_size c.args.heap.now.cells (number c.args.keys)) (sym c.kids.ensures) ∙ c.in-Keys.ensures.are) };
+      found_is = record { cell = c.requires.cell; fits = refl; opens = term-at _ _ _ c.requires.off c.requires.serves.bounded.distinct c.requires.cell ∙ flat-keyed _ _ _ _ _ c.requires.flat c.requires.some c.requires.leads others fit };
       enters = c.requires.line;
     }
 
-pub returns-in-Bad : goal.returns-in-Bad
-returns-in-Bad c =
+pub returns-else-are_keys : goal.returns-else-are_keys
+returns-else-are_keys c =
+    let heap = c.args.heap.now.cells in
+    let k = number c.args.keys in
     let others = off-longer _ _ _ (off-other _ _ _ c.requires.serves.bounded.distinct c.requires.keys c.requires.cell
     (λ e. c.if-number.false (c.number.ensures ∙ e ∙ sym c.number-2.ensures))) (sym c.is_open.ensures.on ∙ c.if-is_open.false) in
+    let unfit = alike _ _ _ _ _ _ c.kind.ensures (c.from.ensures ∙ c.kids-2.ensures) (c.from-values.ensures ∙ ap (λ n. n - 1) c.kids.ensures) ∙ sym c.are_keys.ensures ∙ c.if-are_keys.false in
     record {
-      found_is = term-at _ _ _ c.requires.off c.requires.serves.bounded.distinct c.requires.cell ∙ flat-bad _ _ _ _ _ _ _ c.requires.flat c.requires.some c.requires.leads others (ap (keys_of_size c.args.heap.now.cells (number c.args.keys)) (sym c.kids.ensures) ∙ c.in-Bad.ensures);
+      found_is =
+          term-at _ _ _ c.requires.off c.requires.serves.bounded.distinct c.requires.cell ∙ flat-bad _ _ _ _ _ c.requires.flat c.requires.some c.requires.leads others unfit
+          ∙ ap (λ x. bad x Malformed) (address-is heap k c.addr-else-are_keys.result c.addr-else-are_keys.ensures);
       enters = tt;
     }

@@ -1,9 +1,10 @@
-use Rattle.std.proofs.Common.{refl, sym, ◌∙◌, ap}
+use Rattle.std.proofs.Common.{sym, ◌∙◌, ap}
 use Rattle.heap_cells.specs.Targets.{number}
-use Rattle.cell_records.specs.declared.cells.Why.TheVariants.{OnPath}
+use Rattle.cell_records.specs.declared.cells.Why.TheVariants.{Malformed, OnPath}
 use Rattle.term_unfold.proofs.Targets.{address-is}
-use Rattle.term_unfold.specs.Rules.{bad, item_opening}
-use Rattle.term_unfold.proofs.Opens.{item-on, item-at, pair-opens, inner-opens}
+use Rattle.term_unfold.specs.Kinds.{item_kind}
+use Rattle.term_unfold.specs.Rules.{bad}
+use Rattle.term_unfold.proofs.Opens.{item-on, item-at, item-bad, item-opens}
 use Rattle.term_unfold.proofs.openings.open_member.Goals as goal
 
 pub returns-then-is_open : goal.returns-then-is_open
@@ -15,31 +16,24 @@ returns-then-is_open c =
       enters = tt;
     }
 
-pub returns-in-Pair : goal.returns-in-Pair
-returns-in-Pair c =
+pub returns-in-Some : goal.returns-in-Some
+returns-in-Some c =
     let heap = c.args.heap.now.cells in
     let k = number c.args.ix in
     let off = item-at heap _ _ k _ c.requires.leads (sym c.is_open.ensures.on ∙ c.if-is_open.false) in
+    let node = item-opens heap k _ c.in-Some.kind (sym c.kind.ensures) (sym c.item_kind.ensures ∙ c.in-Some.is) in
     record {
-      found_is = record { cell = c.requires.cell; fits = refl; opens = off ∙ pair-opens _ _ _ _ _ c.in-Pair.ensures.is };
+      found_is = record { cell = c.requires.cell; fits = node.fits; opens = off ∙ node.opens };
       enters = c.is_open.ensures.line c.if-is_open.false;
     }
 
-pub returns-in-Inner : goal.returns-in-Inner
-returns-in-Inner c =
-    let heap = c.args.heap.now.cells in
-    let k = number c.args.ix in
-    let off = item-at heap _ _ k _ c.requires.leads (sym c.is_open.ensures.on ∙ c.if-is_open.false) in
-    record {
-      found_is = record { cell = c.requires.cell; fits = refl; opens = off ∙ inner-opens _ _ _ _ c.in-Inner.ensures.is };
-      enters = c.is_open.ensures.line c.if-is_open.false;
-    }
-
-pub returns-in-Bad : goal.returns-in-Bad
-returns-in-Bad c =
+pub returns-in-None : goal.returns-in-None
+returns-in-None c =
     let heap = c.args.heap.now.cells in
     let k = number c.args.ix in
     record {
-      found_is = item-at heap _ _ k _ c.requires.leads (sym c.is_open.ensures.on ∙ c.if-is_open.false) ∙ ap item_opening c.in-Bad.ensures;
+      found_is =
+          item-at heap _ _ k _ c.requires.leads (sym c.is_open.ensures.on ∙ c.if-is_open.false)
+          ∙ item-bad _ _ (ap item_kind (sym c.kind.ensures) ∙ sym c.item_kind.ensures ∙ c.in-None.is) ∙ ap (λ x. bad x Malformed) (address-is heap k c.addr-in-None.result c.addr-in-None.ensures);
       enters = tt;
     }

@@ -1,2 +1,0 @@
-pub mod HearFacts
-pub mod WholeFacts

@@ -1,9 +1,0 @@
-use Rattle.std.specs.List.{between}
-use Rattle.heap_lines.proofs.HearFacts.{all-heard}
-use Rattle.heap_lines.proofs.line_table.hear_lines.Goals as goal
-
-pub returns-in-Ok-clause-lines : goal.returns-in-Ok-clause-lines
-returns-in-Ok-clause-lines g c = λ dump is.
-    let body = c.in-Ok.ensures.hears in
-    all-heard c.number_is_in_front.ensures.found c.number_is_in_front.ensures.none c.hear_body.new.sink (λ sink. sink.0) c.args.from
-    (between c.args.from c.args.upto dump) body.lines body.heard c.new.ensures.items (body.are dump is)

@@ -1,3 +1,0 @@
--- What only private functions cite.
-pub mod Bodies
-pub mod Hearing
