@@ -4,7 +4,7 @@
 //! its form refer, including the keys element of a flat map; a sub binary reaches the heap binary of which
 //! it is a part. A malformed cell can be reached, and leads nowhere. The cells that some roots reach are a
 //! least set (`specs/Reached.antt`). [`Reach::root`] adds to it what one more root reaches: it keeps a
-//! mark for each cell, and a list of those still to be visited, for which [`Reach::new`] takes the memory.
+//! label for each cell, and a list of those still to be visited, for which [`Reach::new`] takes the memory.
 //!
 //! ```
 //! let mut reach = Reach::new(alloc, &heap)?;
@@ -17,7 +17,6 @@
 //! ```
 #![tactic(auto)]
 
-mod frontier;
 mod reach;
 
 pub use reach::Reach;

@@ -1,94 +1,59 @@
 // Marking what the roots of a heap reach.
-ghost use Rattle.std.specs.Prelude.{◌≡◌, ℕ, ◌<◌, [], ◌∷◌, ◌++◌, length, Some, IfSome, IfOk, OnOk, false};
+ghost use Rattle.std.specs.Prelude.{◌≡◌, ℕ, ◌<◌, [], ◌∷◌, ◌++◌, length, IfOk, OnOk, false};
 ghost use Rattle.std.specs.List.Sorted.{IsStrictlyIncreasing};
 ghost use Rattle.term_forms.specs.Seen.{element};
 ghost use Rattle.heap_cells.specs.HeapMap.{address_at};
 ghost use Rattle.heap_cells.specs.Targets.{At, number, target};
-ghost use Rattle.cell_graphs.specs.Graphs.{Leads, LeadsWithin, graph_of};
-ghost use Rattle.cell_graphs.specs.Reached.{is_in, IsIn, AreReached};
-ghost use Rattle.cell_graphs.specs.Frontiers.{Adds, IsLooked, IsSettled};
+ghost use Rattle.cell_graphs.specs.Frontiers.{Adds};
+ghost use Rattle.cell_graphs.specs.Graphs.{graph_of};
+ghost use Rattle.cell_graphs.specs.Reached.{is_in, AreReached};
 ghost use Rattle.heap_reach.specs.Reached.{Begun};
 ghost use Rattle.heap_reach.specs.Rounds.{IsReachOf, AddsRoots};
 ghost use Rattle.heap_reach.specs.Unreached.{missed, missed_below, unreached_of, AreMissed};
+ghost use Rattle.heap_weights.specs.Labels.{frontier};
 
-use crate::frontier::Marked;
-use cell_graphs::CellGraph;
 use heap_cells::{CellIx, Heap, Seat};
+use heap_weights::{Labels, spread};
 use std::alloc::{AllocError, Global};
 use std::marker::Model;
 use term_forms::shapes::Elem;
 
-// Adds the cell to which a place leads.
-fn add_lead(marked: &mut Marked, lead: Option<u32>)
-    requires { IfSome lead (λ n. n < length marked.old.marks) }
-    ensures { Adds marked.old marked.new (λ n. lead ≡ Some n) }
-{
-    if let Some(n) = lead {
-        marked.add(n);
-    }
-}
-
-// Adds the cells to which a cell leads.
-fn look_at<G: CellGraph>(graph: &G, marked: &mut Marked, cell: u32)
-    requires within { LeadsWithin (G.graph graph.now) }
-    requires cells { length marked.old.marks ≡ length (G.graph graph.now) }
-    requires cell { cell < length (G.graph graph.now) }
-    ensures { Adds marked.old marked.new (Leads (G.graph graph.now) cell) }
-{
-    for place in 0..graph.places(cell) {
-        add_lead(marked, graph.lead(cell, place));
-    }
-}
-
-// Visits each cell that waits, including those that start to wait meanwhile.
-fn spread<G: CellGraph>(graph: &G, marked: &mut Marked)
-    requires within { LeadsWithin (G.graph graph.now) }
-    requires cells { length marked.old.marks ≡ length (G.graph graph.now) }
-    requires room { marked.old.reserved ≡ length (G.graph graph.now) }
-    requires looked { IsLooked (G.graph graph.now) marked.old }
-    ensures settled { IsSettled (G.graph graph.now) marked.new }
-    ensures reserved { marked.new.reserved ≡ marked.old.reserved }
-    ensures reached { AreReached (G.graph graph.now) (IsIn marked.old.marks) marked.new.marks }
-{
-    while let Some(cell) = marked.pop() {
-        look_at(graph, marked, cell);
-    }
-}
-
 // Adds the cell to which a root refers.
-fn add_root(heap: &Heap, marked: &mut Marked, root: &Elem<'_>)
-    requires { length marked.old.marks ≡ length heap.now.cells }
-    ensures { Adds marked.old marked.new (λ n. target heap.now.cells (element root.now) ≡ At n) }
+fn add_root(heap: &Heap, labels: &mut Labels, root: &Elem<'_>)
+    requires { length labels.old.holders ≡ length heap.now.cells }
+    ensures size { length labels.new.holders ≡ length labels.old.holders }
+    ensures adds { Adds (frontier labels.old) (frontier labels.new)
+        (λ n. target heap.now.cells (element root.now) ≡ At n) }
 {
     if let Elem::Ref(addr) = root {
         match heap.at(*addr) {
             Seat::Missing => {}
-            Seat::Malformed(ix) | Seat::Cell(ix) => marked.add(ix.number()),
+            Seat::Malformed(ix) | Seat::Cell(ix) => labels.add(ix.number()),
         }
     }
 }
 
-fn push_missed(found: &mut Vec<u64>, heap: &Heap, marked: &Marked, n: u32) -> Result<(), AllocError>
-    requires marks { length marked.now.marks ≡ length heap.now.cells }
+fn push_missed(found: &mut Vec<u64>, heap: &Heap, labels: &Labels, n: u32) -> Result<(), AllocError>
+    requires cells { length labels.now.holders ≡ length heap.now.cells }
     requires cell { n < length heap.now.cells }
-    ensures { OnOk result (found.new.items
-        ≡ found.old.items ++ missed (is_in marked.now.marks n) (address_at heap.now.cells n)) }
+    ensures { OnOk result (found.new.items ≡ found.old.items
+        ++ missed (is_in (frontier labels.now).marks n) (address_at heap.now.cells n)) }
 {
-    if !marked.contains(n) {
+    if !labels.is_marked(n) {
         found.push(heap.addr(heap.cell(n)))?;
     }
     Ok(())
 }
 
 // The addresses of the heap's own cells that aren't marked, in the order of the cells.
-fn missed_cells(alloc: Global, heap: &Heap, marked: &Marked) -> Result<Vec<u64>, AllocError>
-    requires { length marked.now.marks ≡ length heap.now.cells }
+fn missed_cells(alloc: Global, heap: &Heap, labels: &Labels) -> Result<Vec<u64>, AllocError>
+    requires { length labels.now.holders ≡ length heap.now.cells }
     ensures { IfOk result (λ found. found.items
-        ≡ missed_below heap.now.cells (is_in marked.now.marks) heap.now.own) }
+        ≡ missed_below heap.now.cells (is_in (frontier labels.now).marks) heap.now.own) }
 {
     let mut found = Vec::new(alloc);
     for n in 0..heap.own() {
-        push_missed(&mut found, heap, marked, n)?;
+        push_missed(&mut found, heap, labels, n)?;
     }
     Ok(found)
 }
@@ -98,30 +63,34 @@ fn missed_cells(alloc: Global, heap: &Heap, marked: &Marked) -> Result<Vec<u64>,
 #[derive(Drop)]
 pub struct Reach<'h> {
     heap: &'h Heap,
-    marked: Marked,
+    // A cell is reached if part 0, which comes to each root, has come to it.
+    labels: Labels,
 }
 
 // Between two calls no cell waits, and there is room for exactly as many entries
 // as the heap has cells. A cell waits at most once, so there are never more.
 impl<'h> Model for Reach<'h> {
+    ghost use Rattle.std.specs.Prelude.{◌≡◌, length};
     ghost use Rattle.heap_cells.specs.HeapMap.{IsBounded};
     ghost use Rattle.cell_graphs.specs.Graphs.{graph_of};
     ghost use Rattle.cell_graphs.specs.Frontiers.{IsSettled};
     ghost use Rattle.heap_reach.specs.Reached.{Reaching};
+    ghost use Rattle.heap_weights.specs.Labels.{frontier};
 
     ghost Value = { Reaching };
 
     ghost view = { λ r. record {
       heap = r.heap.now;
-      marks = r.marked.marks;
-      reserved = r.marked.reserved;
+      marks = (frontier r.labels).marks;
+      reserved = r.labels.reserved;
     } };
 
-    ghost invariant = { λ r. IsBounded r.heap.now × IsSettled (graph_of r.heap.now.cells) r.marked };
+    ghost invariant = { λ r. IsBounded r.heap.now × (length r.labels.holders ≡ length r.heap.now.cells)
+        × IsSettled (graph_of r.heap.now.cells) (frontier r.labels) };
 }
 
 impl<'h> Reach<'h> {
-    /// A heap of which no cell is reached yet. Takes all the memory that calls of `root` need: a mark for
+    /// A heap of which no cell is reached yet. Takes all the memory that calls of `root` need: four bytes for
     /// each cell, and room for exactly as many entries in the list of cells that are still to be visited.
     pub fn new(alloc: Global, heap: &'h Heap) -> Result<Reach<'h>, AllocError>
         ensures heap { IfOk result (λ reach. reach.heap ≡ heap.now) }
@@ -129,8 +98,8 @@ impl<'h> Reach<'h> {
         ensures roots { IfOk result (λ reach. IsReachOf reach []) }
         ensures reserved { IfOk result (λ reach. reach.reserved ≡ length heap.now.cells) }
     {
-        let marked = Marked::new(alloc, heap.cells() as usize)?;
-        Ok(Reach { heap, marked })
+        let labels = Labels::new(alloc, heap.cells() as usize)?;
+        Ok(Reach { heap, labels })
     }
 
     /// Adds what a root reaches: afterwards the reached cells are the least closed set that contains those
@@ -143,8 +112,8 @@ impl<'h> Reach<'h> {
             AreReached (graph_of cells) (Begun cells self.old.marks (element root.entry)) self.new.marks }
         ensures roots { AddsRoots self.old self.new (element root.entry ∷ []) }
     {
-        add_root(self.heap, &mut self.marked, &root);
-        spread(self.heap, &mut self.marked);
+        add_root(self.heap, &mut self.labels, &root);
+        spread(self.heap, &mut self.labels);
     }
 
     /// Whether a cell is reached.
@@ -152,7 +121,7 @@ impl<'h> Reach<'h> {
         requires { number ix < length self.now.heap.cells }
         ensures { result ≡ is_in self.now.marks (number ix) }
     {
-        self.marked.contains(ix.number())
+        self.labels.is_marked(ix.number())
     }
 
     /// The addresses of the heap's own cells that aren't reached, ascending.
@@ -163,7 +132,7 @@ impl<'h> Reach<'h> {
         ensures value { IfOk result (λ found.
             found.items ≡ unreached_of self.now.heap (is_in self.now.marks)) }
     {
-        let mut found = missed_cells(alloc, self.heap, &self.marked)?;
+        let mut found = missed_cells(alloc, self.heap, &self.labels)?;
         found.sort_unstable();
         Ok(found)
     }

@@ -6,7 +6,7 @@ use Rattle.cell_graphs.specs.Reached.{IsIn, Reached}
 use Rattle.cell_graphs.specs.Frontiers.{IsLooked, IsSettled}
 use Rattle.cell_graphs.specs.Laws.Spreading.{Spreads, reached-end, settled-end, spreads-first, spreads-next}
 use Rattle.heap_weights.specs.Holders.{holder_at}
-use Rattle.heap_weights.specs.Inner.Labels.{Labelling, Takes, Walks, frontier, is_stop, is_stopped, marks_of}
+use Rattle.heap_weights.specs.Labels.{Labelling, Takes, Walks, frontier, is_stop, is_stopped, marks_of}
 use Rattle.heap_weights.proofs.Taking.{Walks-none, Walks-then}
 use Rattle.heap_weights.proofs.Turning.{marked-stop}
 

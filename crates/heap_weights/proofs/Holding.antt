@@ -6,7 +6,8 @@ use Rattle.cell_graphs.specs.Graphs.{Graph}
 use Rattle.heap_weights.specs.declared.holders.Holder.TheVariants.{Nobody}
 use Rattle.heap_weights.specs.Holders.{held_if, holder_among, holder_at}
 use Rattle.heap_weights.specs.Parts.{holder_of, number_if, reached_at, reaching, reaching_from}
-use Rattle.heap_weights.specs.Inner.Labels.{AreHeldBy, Labelling}
+use Rattle.heap_weights.specs.Labels.{Labelling}
+use Rattle.heap_weights.specs.Inner.Labels.{AreHeldBy}
 
 -- the number of one part more, if that reaches the cell
 reaching-more : (part : ℕ) (graph : Graph) (parts : List ℕ) (e : ℕ) (n : ℕ)

@@ -8,7 +8,8 @@ use Rattle.cell_graphs.specs.Laws.Adding.{IsTied-none, IsTied-popped, IsTied-pus
 use Rattle.heap_weights.specs.declared.holders.Holder.{Holder}
 use Rattle.heap_weights.specs.declared.holders.Holder.TheVariants.{Nobody}
 use Rattle.heap_weights.specs.Holders.{held_too, holder_at, labelled}
-use Rattle.heap_weights.specs.Inner.Labels.{Labelling, is_stop, marks_of, pushed}
+use Rattle.heap_weights.specs.Labels.{Labelling, is_stop, marks_of}
+use Rattle.heap_weights.specs.Inner.Labels.{pushed}
 use Rattle.heap_weights.proofs.Taking.{marks-set}
 use Rattle.heap_weights.proofs.Turning.{marked-stop}
 

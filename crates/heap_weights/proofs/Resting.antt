@@ -9,7 +9,8 @@ use Rattle.cell_graphs.specs.Laws.Spreading.{looked-first, reached-root}
 use Rattle.heap_weights.specs.declared.holders.Holder.TheVariants.{Nobody}
 use Rattle.heap_weights.specs.Holders.{held_if, holder_at, is_held, is_several, label_of}
 use Rattle.heap_weights.specs.Parts.{reached_at}
-use Rattle.heap_weights.specs.Inner.Labels.{IsRested, IsShut, Labelling, Takes, Walks, frontier, is_stop}
+use Rattle.heap_weights.specs.Labels.{Labelling, Takes, Walks, frontier, is_stop}
+use Rattle.heap_weights.specs.Inner.Labels.{IsRested, IsShut}
 use Rattle.heap_weights.proofs.Reaching.{reached-both, reached-on}
 use Rattle.heap_weights.proofs.Taking.{Walks-then}
 use Rattle.heap_weights.proofs.Turning.{IsEnded, held-before, held-now, held-parts, marked-stop, several-before, several-now, several-parts, stop-new, turned-held, walked-more}

@@ -13,7 +13,8 @@ use Rattle.cell_graphs.specs.Laws.Places as walk
 use Rattle.heap_weights.specs.declared.holders.Holder.{Holder}
 use Rattle.heap_weights.specs.declared.holders.Holder.TheVariants.{Nobody}
 use Rattle.heap_weights.specs.Holders.{held_too, holder_at}
-use Rattle.heap_weights.specs.Inner.Labels.{IsTurned, Labelling, Takes, Walks, frontier, is_stop, is_stopped, marks_of, pushed}
+use Rattle.heap_weights.specs.Labels.{IsTurned, Labelling, Takes, Walks, frontier, is_stop, is_stopped, marks_of}
+use Rattle.heap_weights.specs.Inner.Labels.{pushed}
 use Rattle.heap_weights.proofs.Turning.{IsTurned-then, marked-stop, stop-too}
 
 -- ---- walks

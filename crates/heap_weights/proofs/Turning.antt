@@ -6,7 +6,7 @@ use Rattle.cell_graphs.specs.Reached.{is_in}
 use Rattle.heap_weights.specs.declared.holders.Holder.{Holder}
 use Rattle.heap_weights.specs.declared.holders.Holder.TheVariants.{Nobody, Several, Part}
 use Rattle.heap_weights.specs.Holders.{held_if, held_too, holder_at, is_held, is_several, label_of}
-use Rattle.heap_weights.specs.Inner.Labels.{IsTurned, is_stop, marks_of}
+use Rattle.heap_weights.specs.Labels.{IsTurned, is_stop, marks_of}
 
 -- ---- marks of holders
 

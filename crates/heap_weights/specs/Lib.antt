@@ -1,5 +1,6 @@
 pub mod Holders
 pub mod Inner
+pub mod Labels
 pub mod Laws
 pub mod Parts
 pub mod Shares

@@ -1,7 +1,9 @@
 // The labels of a heap's cells, and those cells that wait to be visited.
 ghost use Rattle.std.specs.Prelude.{◌≡◌, ℕ, ◌+◌, ◌<◌, ◌^◌, [], ◌∷◌, length, IfOk, IfSome, MatchOption, false, true};
 ghost use Rattle.heap_weights.specs.Holders.{held_too, holder_at, labelled};
-ghost use Rattle.heap_weights.specs.Inner.Labels.{is_stop, is_stopped, pushed, Takes};
+ghost use Rattle.cell_graphs.specs.Reached.{is_in};
+ghost use Rattle.heap_weights.specs.Labels.{frontier, is_stop, is_stopped, Takes};
+ghost use Rattle.heap_weights.specs.Inner.Labels.{pushed};
 
 use crate::holders::Holder;
 use std::alloc::{AllocError, Global};
@@ -47,10 +49,11 @@ fn label_too(part: u32, label: u32) -> u32
     }
 }
 
-// The part whose number `part` is walks. A cell starts to wait when the walk comes to
-// it, and never again in the same walk, so the list has no more entries than there are cells.
+/// The labels of a heap's cells, and the cells that wait to be visited by the part that walks, which is part 0 at first.
+// A cell starts to wait when the walk comes to it, and never again in
+// the same walk, so the list has no more entries than there are cells.
 #[derive(Drop)]
-pub(crate) struct Labels {
+pub struct Labels {
     labels: Vec<u32>,
     waiting: Vec<u32>,
     part: u32,
@@ -61,7 +64,7 @@ impl Model for Labels {
     ghost use Rattle.std.specs.Vec.{vec_capacity};
     ghost use Rattle.cell_graphs.specs.Frontiers.{IsTied};
     ghost use Rattle.heap_weights.specs.Holders.{labelled};
-    ghost use Rattle.heap_weights.specs.Inner.Labels.{Labelling, marks_of};
+    ghost use Rattle.heap_weights.specs.Labels.{Labelling, marks_of};
 
     ghost Value = { Labelling };
 
@@ -82,6 +85,7 @@ impl Labels {
         requires { cells < 2 ^ 32 }
         ensures size { IfOk result (λ labels. length labels.holders ≡ cells) }
         ensures none { IfOk result (λ labels. (n : ℕ) → holder_at labels.holders n ≡ Holder.Nobody) }
+        ensures unmarked { IfOk result (λ labels. (n : ℕ) → is_in (frontier labels).marks n ≡ false) }
         ensures reserved { IfOk result (λ labels. labels.reserved ≡ cells) }
         ensures empty { IfOk result (λ labels. labels.waiting ≡ []) }
     {
@@ -110,6 +114,14 @@ impl Labels {
         is_stop(self.part, self.labels[cell as usize])
     }
 
+    /// Whether the part that walks has come to a cell, or several parts hold it.
+    pub fn is_marked(&self, cell: u32) -> bool
+        requires { cell < length self.now.holders }
+        ensures { result ≡ is_in (frontier self.now).marks cell }
+    {
+        self.stops(cell)
+    }
+
     // The part comes to a cell, which starts to wait.
     fn push(&mut self, cell: u32)
         requires within { cell < length self.old.holders }
@@ -131,7 +143,7 @@ impl Labels {
     }
 
     /// The cell that started to wait last, which stops waiting.
-    pub fn pop(&mut self) -> Option<u32>
+    pub(crate) fn pop(&mut self) -> Option<u32>
         ensures holders { self.new.holders ≡ self.old.holders }
         ensures part { self.new.part ≡ self.old.part }
         ensures reserved { self.new.reserved ≡ self.old.reserved }
@@ -143,7 +155,7 @@ impl Labels {
     }
 
     /// A part begins its walk.
-    pub fn begin(&mut self, part: u32)
+    pub(crate) fn begin(&mut self, part: u32)
         requires empty { self.old.waiting ≡ [] }
         requires room { part + 2 < 2 ^ 32 }
         ensures holders { self.new.holders ≡ self.old.holders }

@@ -23,6 +23,8 @@ mod walking;
 mod weights;
 
 pub use holders::Holder;
+pub use labels::Labels;
 pub use laws::{parts_hold, shares_add_up};
 pub use shares::{Shares, Weight};
+pub use walking::spread;
 pub use weights::weigh;

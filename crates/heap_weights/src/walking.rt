@@ -1,11 +1,12 @@
-// The walk of one part.
-ghost use Rattle.std.specs.Prelude.{◌≡◌, ℕ, ◌+◌, ◌<◌, ◌^◌, ◌↔◌, length, Some, IfSome};
+// The walk of a part.
+ghost use Rattle.std.specs.Prelude.{◌≡◌, ℕ, ◌+◌, ◌<◌, ◌^◌, length, Some, IfSome};
 ghost use Rattle.cell_graphs.specs.Graphs.{Leads, LeadsWithin};
-ghost use Rattle.cell_graphs.specs.Reached.{Reached, IsIn};
+ghost use Rattle.cell_graphs.specs.Reached.{IsIn, AreReached};
 ghost use Rattle.cell_graphs.specs.Frontiers.{IsLooked, IsSettled};
 ghost use Rattle.heap_weights.specs.Holders.{held_if, holder_at};
 ghost use Rattle.heap_weights.specs.Parts.{reached_at};
-ghost use Rattle.heap_weights.specs.Inner.Labels.{frontier, IsRested, Takes, Walks};
+ghost use Rattle.heap_weights.specs.Labels.{Takes, Walks, frontier};
+ghost use Rattle.heap_weights.specs.Inner.Labels.{IsRested};
 
 use crate::labels::Labels;
 use cell_graphs::CellGraph;
@@ -32,16 +33,17 @@ fn look_at<G: CellGraph>(graph: &G, labels: &mut Labels, cell: u32)
     }
 }
 
-// Visits each cell that waits, including those that start to wait meanwhile.
-fn spread<G: CellGraph>(graph: &G, labels: &mut Labels)
+/// Visits each cell that waits, including those that start to wait meanwhile.
+pub fn spread<G: CellGraph>(graph: &G, labels: &mut Labels)
     requires within { LeadsWithin (G.graph graph.now) }
     requires cells { length labels.old.holders ≡ length (G.graph graph.now) }
     requires room { labels.old.reserved ≡ length (G.graph graph.now) }
     requires looked { IsLooked (G.graph graph.now) (frontier labels.old) }
+    ensures size { length labels.new.holders ≡ length labels.old.holders }
     ensures walks { Walks labels.old labels.new }
     ensures settled { IsSettled (G.graph graph.now) (frontier labels.new) }
-    ensures reached { (n : ℕ) → IsIn (frontier labels.new).marks n
-        ↔ Reached (G.graph graph.now) (IsIn (frontier labels.old).marks) n }
+    ensures reached { AreReached (G.graph graph.now) (IsIn (frontier labels.old).marks)
+        (frontier labels.new).marks }
 {
     while let Some(cell) = labels.pop() {
         look_at(graph, labels, cell);

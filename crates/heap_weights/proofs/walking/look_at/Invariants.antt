@@ -1,5 +1,5 @@
 use Rattle.cell_graphs.specs.Frontiers.{LeadsBy}
-use Rattle.heap_weights.specs.Inner.Labels.{Takes}
+use Rattle.heap_weights.specs.Labels.{Takes}
 use Rattle.heap_weights.proofs.walking.look_at.Given as goal
 
 -- the part has come to the cells to which the first places lead

@@ -1,3 +1,4 @@
+use Rattle.std.proofs.Common.{length, ap, sym, ◌∙◌}
 use Rattle.heap_weights.proofs.Going.{goes-first, goes-next, reached-last, settled-last, walks-end}
 use Rattle.heap_weights.proofs.walking.spread.Goals as goal
 
@@ -23,3 +24,6 @@ pub returns-clause-reached : goal.returns-clause-reached
 returns-clause-reached g c =
     reached-last (g.G.CellGraph.graph c.args.graph.now) c.args.labels.now c.loop-cell.labels c.pop.new.self
     c.loop-cell.invariant c.in_default.ensures.holders c.in_default.ensures.part c.in_default.ensures.popped
+
+pub returns-clause-size : goal.returns-clause-size
+returns-clause-size g c = ap length c.in_default.ensures.holders ∙ c.loop-cell.invariant.size ∙ sym c.requires.cells

@@ -1,5 +1,5 @@
 use Rattle.cell_graphs.specs.Frontiers.{work}
-use Rattle.heap_weights.specs.Inner.Labels.{frontier}
+use Rattle.heap_weights.specs.Labels.{frontier}
 use Rattle.heap_weights.proofs.Going.{Goes}
 use Rattle.heap_weights.proofs.walking.spread.Given as goal
 

@@ -1,5 +1,5 @@
 use Rattle.std.proofs.Common.{ap, ◌∙◌}
-use Rattle.heap_weights.specs.Inner.Labels.{Labelling}
+use Rattle.heap_weights.specs.Labels.{Labelling}
 use Rattle.heap_weights.proofs.Labelling.{tied-begin}
 use Rattle.heap_weights.proofs.labels.Labels.begin.Goals as goal
 

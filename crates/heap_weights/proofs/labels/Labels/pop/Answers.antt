@@ -2,7 +2,7 @@ use Rattle.std.proofs.Common.{◌≡◌, ◌<◌, [], length, map, true, MatchOp
 use Rattle.std.specs.Prelude.{IfSome, reverse}
 use Rattle.cell_graphs.specs.Laws.Adding.{IsTied-pop}
 use Rattle.heap_weights.specs.Holders.{labelled}
-use Rattle.heap_weights.specs.Inner.Labels.{Labelling, is_stopped, marks_of}
+use Rattle.heap_weights.specs.Labels.{Labelling, is_stopped, marks_of}
 use Rattle.heap_weights.proofs.Labelling.{popped-stopped, popped-within}
 use Rattle.heap_weights.proofs.labels.Labels.pop.Goals as goal
 
