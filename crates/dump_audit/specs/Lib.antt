@@ -3,6 +3,7 @@ pub mod Bodies
 pub mod FindingViews
 pub mod Findings
 pub mod Fitting
+pub mod Flight
 pub mod Inner
 pub mod Laws
 pub mod Mailboxes

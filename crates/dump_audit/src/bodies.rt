@@ -13,7 +13,8 @@ use crate::mailboxes::{mailboxes, present};
 use crate::messages::count_messages;
 use dump_io::{Dumps, Limits};
 use dump_sections::{BodyFault, Index, LargeSection, large};
-use process_table::{ProcSections, Procs};
+use process_table::{ProcSections, Procs, signalled};
+use section_rows::Column;
 use std::alloc::{AllocError, Global};
 
 // The bodies of an audit, from the index: the sections of the processes; for a
@@ -25,7 +26,8 @@ struct BodyPlaces {
     present: Vec<usize>,
 }
 
-/// What an audit takes from its bodies: the processes, and in a full audit how many messages each has.
+/// What an audit takes from its bodies: the processes, for which of
+/// them signals wait, and in a full audit how many messages each has.
 #[derive(Drop)]
 pub struct AuditBodies {
     /// The process table.
@@ -33,6 +35,8 @@ pub struct AuditBodies {
     /// In a full audit, for each process of the table the number of messages in its mailbox, which is
     /// unknown if there is no mailbox, or if the dump is truncated in it. In any other audit `None`.
     pub mails: Option<Vec<Option<u64>>>,
+    /// For each process of the table whether signals wait for it, as [`signalled`] says.
+    pub signalled: Vec<bool>,
 }
 
 // The mailboxes of the processes, for a full audit. Any other audit counts none.
@@ -101,11 +105,16 @@ fn read_bodies<D: Dumps>(
     ensures auditable { IfOk result (IsAuditable index.now) }
     ensures fault { IfErr result (IsUnloaded (D.state dumps.old) (D.state dumps.new)) }
 {
-    let procs = Procs::read(alloc, dumps, index, places.found, limits)?;
+    let columns = [Column::Field(b"Internal State")];
+    let (procs, states) = Procs::read_with(alloc, dumps, index, places.found, &columns, limits)?;
+    let Ok(signalled) = signalled(alloc, &states) else {
+        return Err(BodyFault::Memory);
+    };
     let counts = count_messages(alloc, dumps, index, places.mailboxes.as_slice(), limits)?;
     Ok(AuditBodies {
         procs,
         mails: full.then_some(counts),
+        signalled,
     })
 }
 

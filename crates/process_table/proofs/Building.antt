@@ -13,6 +13,7 @@ use Rattle.dump_sections.specs.Loading.{sections_at}
 use Rattle.section_rows.specs.Rows.{Row, rows_of}
 use Rattle.dump_sections.specs.Bodies.{body_of}
 use Rattle.process_table.specs.declared.pids.PidPlace.{PidPlace}
+pub use Rattle.process_table.specs.Laws.{sections_told}
 use Rattle.process_table.specs.Records.{PlacedSection, ProcPlaces, is_process, named_place, proc_places, pid_of, records, record_sections, repeated}
 use Rattle.process_table.specs.Processes.{Process, ProcessTable, process_in, process_table, IsProcessIn, AreProcessesOver}
 use Rattle.process_table.specs.Inner.Finding.{named_places, IsRecordOf, sections_of as places_in}
@@ -63,10 +64,6 @@ All-named : (index : Contents) (rs : List PlacedSection) (rows : List Row) → A
 All-named index [] rows all = All-nil (IsProcessIn index)
 All-named index (r ∷ rs) [] all = All-nil (IsProcessIn index)
 All-named index (r ∷ rs) (row ∷ rows) all = grind (arith, All-named index rs rows (All-tail (IsRecordOf index) r rs all), All-head, All-cons, named_own, All-tail)
-
--- the sections of an index over bytes that are told are those of the bytes
-pub sections_told : (now : Now) (index : Contents) (bytes : List ℕ) → IsBuiltOver now index → now ≡ told bytes → sections_in index ≡ sections bytes
-sections_told now index bytes over same = grind arith
 
 -- a table that is put together of what an index tells of its processes, and of the rows of the records
 module _ (index : Contents) (found : ProcPlaces) (places : List PidPlace) (passed : ℕ) (rows : List Row)

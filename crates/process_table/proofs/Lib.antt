@@ -7,3 +7,5 @@ pub mod Placing
 pub mod Positions
 pub mod Ranking
 pub mod Rising
+pub mod Splitting
+pub mod Words

@@ -4,3 +4,5 @@ pub mod Laws
 pub mod Processes
 pub mod Records
 pub mod Shown
+pub mod Signals
+pub mod Stands

@@ -22,9 +22,13 @@ mod hints;
 mod pids;
 mod proc_sections;
 mod procs;
+mod signals;
+mod stands;
 
 pub use columns::load_rows;
 pub use fields::FieldTable;
 pub use proc_sections::ProcSections;
 pub use procs::{Proc, Procs};
 pub use section_rows::Kept;
+pub use signals::signalled;
+pub use stands::Stands;

@@ -1,20 +1,23 @@
 // The process table.
-ghost use Rattle.std.specs.Prelude.{◌≡◌, ◌<◌, length, slice_get, None, Some, IfSome, IfOk, position};
+ghost use Rattle.std.specs.Prelude.{◌≡◌, ◌<◌, length, map, slice_get, None, Some, IfSome, IfOk, position};
 ghost use Rattle.std.specs.Str.{bytes_eq};
 ghost use Rattle.dump_io.specs.Dumps.{IfTold};
 ghost use Rattle.dump_sections.specs.Index.{IsBuiltOver, sections_in};
 ghost use Rattle.dump_sections.specs.Loading.{LoadsBodies};
-ghost use Rattle.section_rows.specs.Shown.{shown_cell};
+ghost use Rattle.section_rows.specs.Rows.{AreRowsOf};
+ghost use Rattle.section_rows.specs.Shown.{shown_cell, shown_column};
 ghost use Rattle.process_table.specs.Records.{proc_places, record_sections};
 ghost use Rattle.process_table.specs.Processes.{AreBoundedProcesses, AreProcessesOver, process_at, process_table};
 ghost use Rattle.process_table.specs.Shown.{shown_process};
+ghost use Rattle.process_table.specs.Stands.{stand_rows};
 ghost use Rattle.process_table.specs.Inner.Finding.{named_places};
 ghost use Rattle.process_table.specs.Inner.Joined.{all_joined, AreJoined};
 
-use crate::columns::load_columns;
+use crate::columns::{load_columns, load_split};
 use crate::hints::Hints;
 use crate::pids::{PidOrder, PidPlace, number_of};
 use crate::proc_sections::{ProcSections, place_at};
+use crate::stands::{COLUMNS, Stands};
 use dump_io::{Dumps, Limits};
 use dump_sections::{BodyFault, Index};
 use section_rows::{Column, Kept, SectionRows};
@@ -161,6 +164,75 @@ impl Procs {
             fields,
             repeated,
         })
+    }
+
+    /// Reads the bodies as [`Procs::read`] does, and keeps in a row for each process what further columns show of it.
+    ///
+    /// Returns the faults of [`Procs::load`], for the same causes, and reads as many bytes.
+    pub fn read_with<D: Dumps>(
+        alloc: Global,
+        dumps: &mut D,
+        index: &Index,
+        found: ProcSections,
+        more: &[Column<'_>],
+        limits: &Limits,
+    ) -> Result<(Procs, SectionRows), BodyFault>
+        requires over { IsBuiltOver (D.state dumps.old).now index.now }
+        requires found { found ≡ proc_places (sections_in index.now) }
+        ensures loads { LoadsBodies D.state (record_sections (sections_in index.now))
+            limits.now.section dumps.old dumps.new result }
+        ensures table { IfOk result (λ read. IfTold (D.state dumps.old).now
+            (λ bytes. read.0 ≡ process_table bytes)) }
+        ensures over { IfOk result (λ read. AreProcessesOver index.now read.0) }
+        ensures rows { IfOk result (λ read. AreRowsOf (D.state dumps.old).now
+            (map shown_column more.now) (record_sections (sections_in index.now)) read.1) }
+    {
+        let (places, order, sections, repeated) = found.into_parts();
+        let Ok(hints) = Hints::of(alloc, &places) else {
+            return Err(BodyFault::Memory);
+        };
+        let (fields, rows) = load_split(
+            alloc,
+            dumps,
+            index,
+            sections.as_slice(),
+            &FIELDS,
+            more,
+            limits,
+        )?;
+        let procs = Procs {
+            places,
+            order,
+            hints,
+            fields,
+            repeated,
+        };
+        Ok((procs, rows))
+    }
+
+    /// Reads the bodies as [`Procs::read`] does, and keeps also where each process stands.
+    ///
+    /// Returns the faults of [`Procs::load`], for the same causes, and reads as many bytes.
+    pub fn read_standing<D: Dumps>(
+        alloc: Global,
+        dumps: &mut D,
+        index: &Index,
+        found: ProcSections,
+        limits: &Limits,
+    ) -> Result<(Procs, Stands), BodyFault>
+        requires over { IsBuiltOver (D.state dumps.old).now index.now }
+        requires found { found ≡ proc_places (sections_in index.now) }
+        ensures loads { LoadsBodies D.state (record_sections (sections_in index.now))
+            limits.now.section dumps.old dumps.new result }
+        ensures table { IfOk result (λ read. IfTold (D.state dumps.old).now
+            (λ bytes. read.0 ≡ process_table bytes)) }
+        ensures over { IfOk result (λ read. AreProcessesOver index.now read.0) }
+        ensures stands { IfOk result (λ read. IfTold (D.state dumps.old).now
+            (λ bytes. read.1 ≡ stand_rows bytes)) }
+        ensures count { IfOk result (λ read. length read.1 ≡ length read.0.processes) }
+    {
+        let (procs, rows) = Procs::read_with(alloc, dumps, index, found, &COLUMNS, limits)?;
+        Ok((procs, Stands::of(rows)))
     }
 
     /// The number of processes.

@@ -1,6 +1,7 @@
 -- Rows that are loaded one after another.
-use Rattle.std.proofs.Common.{◌≡◌, ℕ, ◌+◌, ◌<◌, ◌≤◌, List, [], ◌∷◌, ◌++◌, length, take, map, get_or, None, All, sym, ◌∙◌, ap, subst, arith}
-use Rattle.std.proofs.lemmas.List.{map-append, map_more, take-map}
+use Rattle.std.proofs.Common.{◌≡◌, ℕ, ◌+◌, ◌<◌, ◌≤◌, List, [], ◌∷◌, ◌++◌, length, take, drop, map, get_or, None, All, sym, ◌∙◌, ap, subst, arith}
+use Rattle.std.specs.Prelude.{Err, Ok, OnOk, Result}
+use Rattle.std.proofs.lemmas.List.{drop-map, map-append, map_more, take-map}
 use Rattle.std.proofs.lemmas.List.Sums.{sum_by_push, sum_by-take-le}
 use Rattle.dump_io.specs.Dumps.{Now, told}
 use Rattle.dump_io.specs.Laws.Lists.{All-images}
@@ -50,3 +51,15 @@ module _ (index : Contents) (places : List ℕ) (i d : ℕ) (inside : i < length
 -- where no section is refused, none is too large
 pub All-within : (index : Contents) (limit : ℕ) (places : List ℕ) → large_fault limit (sections_at index places) ≡ None → All (λ i. body_length (section_at index i) ≤ limit) places
 All-within index limit places none = All-images (λ s. body_length s ≤ limit) (section_at index) places (All-small limit (sections_at index places) none)
+
+pub on-ok : {T E P : Type 0} (r : Result T E) → P → OnOk r P
+on-ok (Ok value) p = p
+on-ok (Err fault) p = tt
+
+-- the first of some cells are those of the first columns, and the others those of the others
+module _ {X Y Z C : Type 0} (shown : X → Z) (cell : C → Z) (column : Y → C) (cells : List X) (columns : List Y) (n : ℕ) (all : map shown cells ≡ map cell (map column columns)) where
+  pub fronts-shown : (fronts : List X) → fronts ≡ take n cells → map shown fronts ≡ map cell (take n (map column columns))
+  fronts-shown fronts are = ap (map shown) are ∙ sym (take-map shown n cells) ∙ ap (take n) all ∙ take-map cell n (map column columns)
+
+  pub others-shown : (others : List X) → others ≡ drop n cells → map shown others ≡ map cell (drop n (map column columns))
+  others-shown others are = ap (map shown) are ∙ sym (drop-map shown n cells) ∙ ap (drop n) all ∙ drop-map cell n (map column columns)

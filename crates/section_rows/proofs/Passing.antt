@@ -9,7 +9,7 @@ use Rattle.dump_sections.specs.Sections.{Section}
 use Rattle.section_rows.specs.declared.columns.Kept.{Kept as LentKept}
 use Rattle.section_rows.specs.declared.columns.Column.{Column as LentColumn}
 use Rattle.section_rows.specs.declared.columns.Column.TheVariants.{Tag}
-use Rattle.section_rows.specs.Rows.{Kept, Column, tag, id, field, id_kept, column_cell}
+use Rattle.section_rows.specs.Rows.{Kept, Column, tag, id, field, starting, id_kept, column_cell}
 use Rattle.section_rows.specs.Shown.{shown_cell, shown_column}
 use Rattle.section_rows.specs.Inner.Passing.{own_cell, later_cell, IsSettled, AreSettled, IsOver, AreOver}
 use Rattle.section_rows.specs.Inner.Places.{HasRoom}
@@ -21,11 +21,13 @@ pub settled-own : (s : Section) (body : List ℕ) (column : Column) → HasRoom 
 settled-own s body tag room = record { value = refl; room = room }
 settled-own s body id room = record { value = sym (or-none (id_kept s)); room = room }
 settled-own s body (field key) room = record { value = refl; room = room }
+settled-own s body (starting one other) room = record { value = refl; room = room }
 
 later-none : (base : ℕ) (column : Column) → later_cell base [] column ≡ None
 later-none base tag = refl
 later-none base id = refl
 later-none base (field key) = refl
+later-none base (starting one other) = refl
 
 -- ---- all columns
 -- the first columns have looked at the line, the others haven't

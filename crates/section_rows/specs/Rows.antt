@@ -1,8 +1,10 @@
 -- What is kept of sections: a row for each, with its offset in the file and a cell for each column.
-use Rattle.std.specs.Prelude.{◌≡◌, ℕ, ◌+◌, ◌≤◌, List, [], length, map, slice_get, Option, None, Some, option_map, unwrap_or, IfSome, All}
+use Rattle.std.specs.Prelude.{◌≡◌, ℕ, ◌+◌, ◌≤◌, Bool, ◌||◌, List, [], length, map, slice_get, nat_eq, Option, None, Some, find, option_map, unwrap_or, IfSome, All}
+use Rattle.std.specs.List.{starts_with}
 use Rattle.dump_io.specs.Dumps.{Now, told}
 use Rattle.dump_io.specs.Limits.{usual}
 use Rattle.field_lines.specs.Fields.{find_line, place_of, value_of}
+use Rattle.field_lines.specs.Lines.{TextLine, text_lines}
 use Rattle.dump_sections.specs.Bodies.{body_of}
 use Rattle.dump_sections.specs.Sections.{Section, tag_of, id_of}
 
@@ -16,11 +18,13 @@ pub record Kept : Type 0 where
 abbrev pub kept : ℕ → ℕ → List ℕ → Kept
 kept at value_at text = record { at = at; value_at = value_at; text = text }
 
--- what a column shows of a section: its tag, its id, or the value of the first field with this key
+-- what a column shows of a section: its tag, its id, the value of the first field
+-- with this key, or the first line of its body that begins with one of these two texts
 pub data Column : Type 0 where
   tag : Column
   id : Column
   field : List ℕ → Column
+  starting : List ℕ → List ℕ → Column
 
 -- the tag stands after the equals sign
 abbrev pub tag_kept : Section → Kept
@@ -34,20 +38,37 @@ id_kept s = option_map (kept s.at (s.at + length (tag_of s.text) + 2)) (id_of s.
 abbrev pub field_kept : ℕ → List ℕ → List ℕ → Option Kept
 field_kept base body key = option_map (λ line. kept (base + line.at) (base + (place_of line).from) (value_of line.text)) (find_line body key)
 
+-- whether a line begins with one of two texts
+abbrev pub begins_with : List ℕ → List ℕ → TextLine → Bool
+begins_with one other line = starts_with nat_eq line.text one || starts_with nat_eq line.text other
+
+-- a line of a body that begins at this offset of the file
+abbrev pub line_kept : ℕ → TextLine → Kept
+line_kept base line = kept (base + line.at) (base + line.at) line.text
+
+-- the first line that begins with one of two texts, in a body that begins at this offset of the file
+abbrev pub starting_kept : ℕ → List ℕ → List ℕ → List ℕ → Option Kept
+starting_kept base body one other = option_map (line_kept base) (find (begins_with one other) (text_lines body))
+
 -- the cell of a column, for a section with this body
 abbrev pub column_cell : Section → List ℕ → Column → Option Kept
 column_cell s body tag = Some (tag_kept s)
 column_cell s body id = id_kept s
 column_cell s body (field key) = field_kept s.body body key
+column_cell s body (starting one other) = starting_kept s.body body one other
 
 -- a row: the offset of its section, and a cell for each column
 pub record Row : Type 0 where
   pub at : ℕ
   pub cells : List (Option Kept)
 
+-- a row with these cells, of a section that begins at this offset
+abbrev pub row_with : ℕ → List (Option Kept) → Row
+row_with at cells = record { at = at; cells = cells }
+
 -- the row of a section with this body
 abbrev pub row_of : List Column → Section → List ℕ → Row
-row_of columns s body = record { at = s.at; cells = map (column_cell s body) columns }
+row_of columns s body = row_with s.at (map (column_cell s body) columns)
 
 -- the rows of these sections of a dump
 abbrev pub rows_of : List ℕ → List Column → List Section → List Row

@@ -6,7 +6,7 @@ ghost use Rattle.field_lines.specs.Shown.{shown_line};
 ghost use Rattle.section_rows.specs.Rows.{id_kept, tag_kept};
 ghost use Rattle.section_rows.specs.Shown.{shown_cell, shown_column};
 ghost use Rattle.section_rows.specs.Inner.Lent.{IsLent, shown_section};
-ghost use Rattle.section_rows.specs.Inner.Passing.{own_cell, field_cell, line_cell};
+ghost use Rattle.section_rows.specs.Inner.Passing.{own_cell, field_cell, line_cell, starting_cell};
 ghost use Rattle.section_rows.specs.Inner.Places.{HasRoom};
 
 use dump_sections::Section;
@@ -32,6 +32,8 @@ pub enum Column<'a> {
     Id,
     /// The value of the first field with this key in the body, if there is one.
     Field(&'a [u8]),
+    /// The first line of the body that begins with one of these two texts, if there is one.
+    Starting(&'a [u8], &'a [u8]),
 }
 
 fn id<'a>(section: &Section<'a>) -> Option<Kept<'a>>
@@ -70,7 +72,7 @@ pub(crate) fn own<'a>(section: &Section<'a>, column: &Column<'_>) -> Option<Kept
     match column {
         Column::Tag => tag(section),
         Column::Id => id(section),
-        Column::Field(_) => None,
+        Column::Field(_) | Column::Starting(_, _) => None,
     }
 }
 
@@ -106,6 +108,31 @@ fn field_in<'a>(section: &Section<'_>, line: &Line<'a>, key: &[u8]) -> Option<Ke
     })
 }
 
+// The line of the body, if it begins with one of two texts.
+fn starting_in<'a>(
+    section: &Section<'_>,
+    line: &Line<'a>,
+    one: &[u8],
+    other: &[u8],
+) -> Option<Kept<'a>>
+    requires lent { IsLent section.now }
+    requires inside { section.now.body + line.now.at + length line.now.text.now ≤ section.now.end }
+    requires small { line.now.at + length line.now.text.now ≤ usual.section }
+    ensures value { shown_cell result
+        ≡ starting_cell section.now.body (shown_line line.now) one.now other.now }
+    ensures room { HasRoom section.now.at (shown_cell result) }
+{
+    if !line.text.starts_with(one) && !line.text.starts_with(other) {
+        return None;
+    }
+    let at = section.body + line.at as u64;
+    Some(Kept {
+        at,
+        value_at: at,
+        text: line.text,
+    })
+}
+
 // The cell that a line of the body gives to a column.
 pub(crate) fn in_line<'a>(
     section: &Section<'_>,
@@ -123,5 +150,6 @@ pub(crate) fn in_line<'a>(
         Column::Tag => None,
         Column::Id => None,
         Column::Field(key) => field_in(section, line, key),
+        Column::Starting(one, other) => starting_in(section, line, one, other),
     }
 }

@@ -1,5 +1,6 @@
 //! What is kept of sections of a dump: for each its offset, and a cell for each requested column.
-//! A column shows the tag, the id, or the value of the first field with a key in the body.
+//! A column shows the tag, the id, or of the body the value of the first field with a key, or the first line that begins
+//! with one of two texts.
 //!
 //! [`SectionRows::load`] reads the bodies of the sections one after
 //! another, takes from each what the columns ask for, and frees it.

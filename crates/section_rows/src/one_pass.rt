@@ -40,7 +40,7 @@ fn is_open(column: &Column<'_>, cell: &Option<Kept<'_>>) -> bool
     match column {
         Column::Tag => false,
         Column::Id => false,
-        Column::Field(_) => cell.is_none(),
+        Column::Field(_) | Column::Starting(_, _) => cell.is_none(),
     }
 }
 

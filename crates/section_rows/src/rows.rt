@@ -1,12 +1,12 @@
 // What is kept of sections: a row for each.
-ghost use Rattle.std.specs.Prelude.{◌≡◌, ◌<◌, length, map, slice_get, Some, None, All, IfOk, IsErrOf, IfSome};
+ghost use Rattle.std.specs.Prelude.{◌≡◌, ◌<◌, ◌≤◌, drop, length, map, slice_get, take, Some, None, All, IfOk, IsErrOf, IfSome};
 ghost use Rattle.dump_sections.specs.Index.{IsBuiltOver};
 ghost use Rattle.dump_sections.specs.Loading.{sections_at, body_fault, large_fault, LoadsBodies};
 ghost use Rattle.section_rows.specs.Rows.{row_at, AreRowsOf, AreEven, AreBoundedCells};
 ghost use Rattle.section_rows.specs.Shown.{shown_cell, shown_column};
 
 use crate::columns::{Column, Kept};
-use crate::loaded_rows::load_rows;
+use crate::loaded_rows::{load_rows, load_split};
 use crate::store::Store;
 use dump_io::{Dumps, Limits};
 use dump_sections::{BodyFault, Index, large};
@@ -63,6 +63,42 @@ impl SectionRows {
         }
         let store = load_rows(alloc, dumps, index, sections, columns, limits)?;
         Ok(SectionRows { store })
+    }
+
+    /// Loads rows as [`SectionRows::load`] does, in one pass over each body, and splits them: the first table has
+    /// the cells of the first `first` columns, and the second those of the others.
+    ///
+    /// Returns the faults of [`SectionRows::load`], for the same causes, and reads as many bytes.
+    pub fn load_split<D: Dumps>(
+        alloc: Global,
+        dumps: &mut D,
+        index: &Index,
+        sections: &[usize],
+        columns: &[Column<'_>],
+        first: usize,
+        limits: &Limits,
+    ) -> Result<(SectionRows, SectionRows), BodyFault>
+        requires over { IsBuiltOver (D.state dumps.old).now index.now }
+        requires places { All (λ i. i < length index.now.headers) sections.now }
+        requires first { first ≤ length columns.now }
+        ensures loads { LoadsBodies D.state (sections_at index.now sections.now) limits.now.section
+            dumps.old dumps.new result }
+        ensures first { IfOk result (λ rows. AreRowsOf (D.state dumps.old).now
+            (take first (map shown_column columns.now)) (sections_at index.now sections.now) rows.0) }
+        ensures second { IfOk result (λ rows. AreRowsOf (D.state dumps.old).now
+            (drop first (map shown_column columns.now)) (sections_at index.now sections.now) rows.1) }
+    {
+        let too_large = large(index, sections, limits);
+        if let Some(large) = too_large {
+            return Err(BodyFault::from(large));
+        }
+        let split = load_split(alloc, dumps, index, sections, columns, first, limits)?;
+        Ok((
+            SectionRows { store: split.first },
+            SectionRows {
+                store: split.second,
+            },
+        ))
     }
 
     /// The number of rows.

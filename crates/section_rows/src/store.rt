@@ -2,7 +2,7 @@
 ghost use Rattle.std.specs.Prelude.{◌≡◌, ◌+◌, ◌<◌, ◌≤◌, [], ◌∷◌, ◌^◌, length, map, All, Some, OnOk, slice_get};
 ghost use Rattle.dump_io.specs.Limits.{usual};
 ghost use Rattle.section_rows.specs.Shown.{shown_kept, shown_cell, shown_column};
-ghost use Rattle.section_rows.specs.Rows.{IsBoundedCell, kept as kept_text, row_of, row_at};
+ghost use Rattle.section_rows.specs.Rows.{IsBoundedCell, kept as kept_text, row_of, row_with, row_at};
 ghost use Rattle.section_rows.specs.Inner.Lent.{IsLent, shown_section};
 ghost use Rattle.section_rows.specs.Inner.Places.{Gained, HasGained, HasRoom, AreWithin, rows_in, cell_in, cells_in, place_len, text_len};
 
@@ -168,13 +168,23 @@ impl Store {
         ensures { OnOk result (HasGained self.old self.new
             (row_of (map shown_column columns.now) (shown_section section.now) body.now)) }
     {
+        let cells = cells_of(alloc, section, body, columns)?;
+        self.push_row(section.at, &cells)
+    }
+
+    // Appends a row of these cells to the rows, that of a section at this offset.
+    pub fn push_row(&mut self, at: u64, cells: &[Option<Kept<'_>>]) -> Result<(), AllocError>
+        requires width { self.old.width ≡ length cells.now }
+        requires room { All (λ cell. HasRoom at (shown_cell cell)) cells.now }
+        requires within { AreWithin self.old }
+        ensures { OnOk result (HasGained self.old self.new (row_with at (map shown_cell cells.now))) }
+    {
         let head = Head {
-            at: section.at,
+            at,
             texts: self.pool.len(),
             places: self.places.len(),
         };
-        let cells = cells_of(alloc, section, body, columns)?;
-        push_cells(&mut self.places, &mut self.pool, section.at, &cells)?;
+        push_cells(&mut self.places, &mut self.pool, at, cells)?;
         self.heads.push(head)?;
         Ok(())
     }

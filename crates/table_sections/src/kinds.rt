@@ -16,6 +16,9 @@ pub enum TableKind {
     /// The ports: a row for each `port` section, with its id and the fields `Connected`, `Links` and
     /// `Registered as`.
     Ports,
+    /// What the ports are: a row for each `port` section, with its id and the first
+    /// line of its body that begins with `Port controls ` or `Port is `.
+    PortUses,
     /// The other nodes: a row for each `visible_node`, `hidden_node` and `not_connected` section, with its
     /// tag, its id and the fields `Name`, `Controller` and `Creation`.
     Nodes,
@@ -30,7 +33,7 @@ pub(crate) fn lists(kind: TableKind, tag: &[u8]) -> bool
 {
     match kind {
         TableKind::Ets => tag == b"ets".as_slice(),
-        TableKind::Ports => tag == b"port".as_slice(),
+        TableKind::Ports | TableKind::PortUses => tag == b"port".as_slice(),
         TableKind::Nodes => {
             tag == b"visible_node".as_slice()
                 || tag == b"hidden_node".as_slice()
@@ -58,6 +61,7 @@ pub(crate) fn columns(kind: TableKind) -> &'static [Column<'static>]
             Column::Field(b"Links"),
             Column::Field(b"Registered as"),
         ],
+        TableKind::PortUses => &[Column::Id, Column::Starting(b"Port controls ", b"Port is ")],
         TableKind::Nodes => &[
             Column::Tag,
             Column::Id,

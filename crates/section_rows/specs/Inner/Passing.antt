@@ -7,7 +7,7 @@ use Rattle.dump_sections.specs.Sections.{Section}
 use Rattle.section_rows.specs.declared.columns.Kept.{Kept as LentKept}
 use Rattle.section_rows.specs.declared.columns.Column.{Column as LentColumn}
 use Rattle.section_rows.specs.declared.columns.Column.TheVariants.{Tag}
-use Rattle.section_rows.specs.Rows.{Kept, kept, Column, tag, id, field, tag_kept, id_kept, column_cell}
+use Rattle.section_rows.specs.Rows.{Kept, kept, Column, tag, id, field, starting, begins_with, line_kept, tag_kept, id_kept, column_cell}
 use Rattle.section_rows.specs.Shown.{shown_cell, shown_column}
 use Rattle.section_rows.specs.Inner.Places.{HasRoom}
 
@@ -16,6 +16,7 @@ abbrev pub own_cell : Section → Column → Option Kept
 own_cell s tag = Some (tag_kept s)
 own_cell s id = id_kept s
 own_cell s (field key) = None
+own_cell s (starting one other) = None
 
 -- the field in a line of the body that begins at this offset
 abbrev pub kept_in : ℕ → TextLine → Kept
@@ -25,17 +26,23 @@ kept_in base line = kept (base + line.at) (base + (place_of line).from) (value_o
 abbrev pub field_cell : ℕ → TextLine → List ℕ → Option Kept
 field_cell base line key = if has_key key line then Some (kept_in base line) else None
 
+-- the line, if it begins with one of two texts
+abbrev pub starting_cell : ℕ → TextLine → List ℕ → List ℕ → Option Kept
+starting_cell base line one other = if begins_with one other line then Some (line_kept base line) else None
+
 -- the cell that a line gives to a column
 abbrev pub line_cell : ℕ → TextLine → Column → Option Kept
 line_cell base line tag = None
 line_cell base line id = None
 line_cell base line (field key) = field_cell base line key
+line_cell base line (starting one other) = starting_cell base line one other
 
 -- the cell that the first of these lines with its key gives to a column
 abbrev pub later_cell : ℕ → List TextLine → Column → Option Kept
 later_cell base lines tag = None
 later_cell base lines id = None
 later_cell base lines (field key) = option_map (kept_in base) (find (has_key key) lines)
+later_cell base lines (starting one other) = option_map (line_kept base) (find (begins_with one other) lines)
 
 -- the cell is that of the column, or is still to come from the lines that are left
 pub record IsSettled (s : Section) (body : List ℕ) (column : Column) (left : List TextLine) (cell : Option Kept) : Type 0 where

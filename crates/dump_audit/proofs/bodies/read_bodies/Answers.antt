@@ -9,6 +9,9 @@ use Rattle.dump_sections.specs.Index.{sections_in}
 use Rattle.dump_sections.specs.LoadingLaws.{All-small, IsUnloaded-later, IsUnloaded-small, small-both}
 use Rattle.dump_sections.specs.Loading.{bodies_length}
 use Rattle.process_table.specs.Records.{record_sections}
+use Rattle.process_table.specs.Laws.{sections_told}
+use Rattle.process_table.specs.Signals.{is_signalled, signal_columns}
+use Rattle.section_rows.specs.Rows.{rows_of}
 use Rattle.dump_audit.specs.Mailboxes.{mail_of, mailboxes_at}
 use Rattle.dump_audit.specs.Inner.Mailboxes.{IsSmall}
 use Rattle.dump_audit.proofs.Loads.{counts-all, counts-found}
@@ -35,7 +38,7 @@ returns-in_err-procs-clause-fault g c =
     let sections = sections_in c.args.index.now in
     let limit = c.args.limits.now.section in
     let p = err_from_is_err_and c.from_residual.result c.from_residual.ensures.1 in
-    rw (p.1, p.2) (IsUnloaded-small limit (record_sections sections) (d.state c.args.dumps.now) (d.state c.read.new.dumps) _
+    rw (p.1, p.2) (IsUnloaded-small limit (record_sections sections) (d.state c.args.dumps.now) (d.state c.read_with.new.dumps) _
     (small-both limit (record_sections sections) (mailboxes_at sections c.args.places.mailboxes.items) c.requires.small).0 c.in_err-procs.ensures.loads.fault)
 
 pub returns-in_err-counts-clause-reads : goal.returns-in_err-counts-clause-reads
@@ -49,7 +52,7 @@ pub returns-in_err-counts-clause-fault : goal.returns-in_err-counts-clause-fault
 returns-in_err-counts-clause-fault g c =
     let d = g.D.Dumps in
     let p = err_from_is_err_and c.from_residual-in_err-counts.result c.from_residual-in_err-counts.ensures.1 in
-    rw (p.1, p.2) (IsUnloaded-later (d.state c.read.new.dumps) (d.state c.count_messages.new.dumps) (d.state c.args.dumps.now) (d.state c.count_messages.new.dumps) _
+    rw (p.1, p.2) (IsUnloaded-later (d.state c.read_with.new.dumps) (d.state c.count_messages.new.dumps) (d.state c.args.dumps.now) (d.state c.count_messages.new.dumps) _
     (λ rose. omega (arith, rose, c.in_ok-procs.ensures.loads.reads.later)) c.in_err-counts.ensures.fault)
 
 pub returns-clause-reads : goal.returns-clause-reads
@@ -65,6 +68,8 @@ returns-clause-bodies g c = λ bytes same.
     let mail = mail_of bytes c.args.index.now in
     record {
       procs = c.in_ok-procs.ensures.table bytes same;
+      signalled = c.in-Ok.ensures ∙ ap (map is_signalled) (c.in_ok-procs.ensures.rows.rows bytes same
+          ∙ ap (λ ss. rows_of bytes signal_columns (record_sections ss)) (sections_told (g.D.Dumps.state c.args.dumps.now).now c.args.index.now bytes c.requires.over same));
       mails = ap (option_map (λ counts. counts.items)) c.then_some.ensures
           ∙ counts-found c.args.full sections c.args.places.mailboxes.items mail c.in_ok-counts.counts c.requires.places.mailboxes
           (c.in_ok-counts.ensures.counts bytes (c.in_ok-procs.ensures.loads.reads.same_now ∙ same) ∙ ap (map mail) c.as_slice.ensures.value);
