@@ -1,8 +1,5 @@
-mod CommaFacts
 mod HeardFacts
 mod HearingFacts
-mod NeededFacts
 mod NumberedFacts
+mod OriginFacts
 mod ShownFacts
-mod SetFacts
-mod TextFacts

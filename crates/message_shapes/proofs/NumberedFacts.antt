@@ -13,7 +13,7 @@ use Rattle.text_groups.specs.Numbers.{number_in, weightless, HaveNumbers, IsGrow
 use Rattle.message_shapes.specs.Messages.{Message, item_of, message_at}
 use Rattle.message_shapes.specs.Inner.Shaped.{message_with, messages_with, shape_with, shapes_of}
 use Rattle.message_shapes.specs.Inner.Telling.{Told, told_at, OfText}
-use Rattle.message_shapes.specs.Inner.Tuples.{place_of}
+use Rattle.tuple_fronts.specs.CellSets.{place_of}
 
 -- more texts change no number
 number-kept : (known more : List (List ℕ)) (text : List ℕ) (n : ℕ) → number_in known text ≡ Some n → number_in (known ++ more) text ≡ Some n
@@ -84,11 +84,3 @@ shape-there cells shapes heard i inside =
 pub items-are : (messages : List Message) → map weightless (shapes_of messages) ≡ map item_of messages
 items-are [] = refl
 items-are (message ∷ messages) = ap (λ l. item_of message ∷ l) (items-are messages)
-
--- what stands for a number that is found at a place
-pub found-image : (f : ℕ → List ℕ) (xs : List ℕ) (x i : ℕ) (images : List (List ℕ)) (image : List ℕ) → Some i ≡ place_of xs x → images ≡ map f xs → slice_get images i ≡ Some image → image ≡ f x
-found-image f xs x i images image place are at =
-    let found = position-Some (λ m. m == x) xs i 0 (sym place) in
-    sym (get_or_from_slice_get (map f xs) i image [] (ap (λ l. slice_get l i) (sym are) ∙ at))
-    ∙ get_or-map f xs i 0 [] found.0
-    ∙ ap f (eqb-true (get_or xs i 0) x found.1)

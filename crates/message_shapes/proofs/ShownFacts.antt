@@ -1,227 +1,76 @@
--- The shapes of cells and messages, from the skeleton of the heap and the first elements of tuples.
-use Rattle.std.proofs.Common.{◌≡◌, ℕ, zero, suc, ◌==◌, Bool, true, false, List, [], ◌∷◌, ◌++◌, length, get_or, map, take, Option, None, Some, refl, sym, ◌∙◌, ap, ap₂, subst, arith, append_assoc, append-nil}
-use Rattle.std.specs.Prelude.{codes, filter, flat_map, nat_lt, slice_index_or, Contains, if◌then◌else◌}
-use Rattle.std.specs.Option.{option_map, option_map_or}
+-- Messages with the shapes of the cells to which they refer.
+use Rattle.std.proofs.Common.{◌≡◌, ℕ, ◌==◌, List, [], ◌∷◌, map, Option, None, Some, refl, sym, ◌∙◌, ap, ap₂, subst, arith}
+use Rattle.std.specs.Prelude.{codes, filter, Contains}
+use Rattle.std.specs.Option.{option_map_or}
 use Rattle.std.specs.List.Sorted.{IsStrictlyIncreasing}
-use Rattle.std.proofs.lemmas.List.{get_or-map, get_or_default, length-map, take-map}
 use Rattle.std.proofs.lemmas.List.Elements.{Contains-append_left, Contains-append_right}
-use Rattle.cell_graphs.specs.Graphs.{cell_in, places_at, places_of}
-use Rattle.cell_graphs.specs.Laws.HeapGraphs.{places-of}
-use Rattle.cell_parts.specs.Kinds.{cell_kind}
-use Rattle.cell_records.specs.declared.cells.Kind.{Kind}
 use Rattle.dump_io.specs.Laws.Lists.{position-map}
-use Rattle.heap_cells.specs.Cells.{Cell, addresses, kind_of}
-use Rattle.heap_cells.specs.HeapMap.{HeapMap, form_at, number_at}
-use Rattle.heap_cells.specs.Targets.{target, target_at}
-use Rattle.dump_sections.specs.Index.{Contents, sections_in}
-use Rattle.heap_cells.specs.Loading.{heap_section, literals_section}
-use Rattle.heap_skeleton.specs.Skeletons.{SkeletonMap, heap_in, is_tuple, is_tuple_kind, lines_in, skeleton_for, skeleton_of}
+use Rattle.dump_sections.specs.Index.{Contents}
+use Rattle.heap_cells.specs.Cells.{Cell, addresses}
+use Rattle.heap_cells.specs.HeapMap.{form_at, number_at}
+use Rattle.heap_skeleton.specs.Skeletons.{SkeletonMap, skeleton_for}
 use Rattle.root_views.specs.Roots.{BodyRoot, Content, Term, Info, Dist, Unread, is_message}
-use Rattle.term_forms.specs.Elements.{Element, Ref}
-use Rattle.term_forms.specs.Forms.{HeapForm, Tuple}
-use Rattle.tuple_fronts.specs.Fronts.{form_front, front_of, fronts_for}
-use Rattle.message_shapes.specs.Messages.{Message, mail_cells, mail_roots, message_of, messages_of}
-use Rattle.message_shapes.specs.Shapes.{comma_list, element_shape, form_shape, message_shape, subject_shape, tag_text, tag_texts, tuple_text}
-use Rattle.message_shapes.specs.Inner.CellTexts.{comma_behind, element_text, inner_text, kind_text, subject_text, tuple_with}
+use Rattle.term_forms.specs.Elements.{Ref}
+use Rattle.tuple_fronts.specs.CellSets.{cell_with}
+use Rattle.tuple_fronts.specs.CellShapes.{cell_shapes}
+use Rattle.tuple_fronts.specs.Fronts.{cells_for}
+use Rattle.tuple_fronts.specs.Laws.CellSets.{at-place}
+use Rattle.tuple_fronts.specs.Shapes.{cell_shape, subject_shape}
+use Rattle.message_shapes.specs.Messages.{Message, mail_roots, message_of, messages_of}
+use Rattle.message_shapes.specs.Shapes.{message_shape}
 use Rattle.message_shapes.specs.Inner.Shaped.{messages_with, shape_with}
-use Rattle.message_shapes.specs.Inner.Telling.{cell_with, content_origin, origin_cells, root_told, roots_told, told_cells, OfCell, OfText, Told}
-use Rattle.message_shapes.specs.Inner.Tuples.{TupleMap, front_at, lead_tuple, needed, needed_at, place_of}
-use Rattle.message_shapes.proofs.CommaFacts.{comma-last, tags-count}
-use Rattle.message_shapes.proofs.SetFacts.{found-place}
-
--- ---- a tuple
-
-rest-shown : (shown : List (List ℕ)) (b : Bool) → comma_list (shown ++ (if b then codes "..." ∷ [] else [])) ≡ comma_list shown ++ (if b then comma_behind (length shown) ++ codes "..." else [])
-rest-shown shown true = comma-last shown (codes "...")
-rest-shown shown false = ap comma_list (append-nil shown) ∙ sym (append-nil (comma_list shown))
-
-tuple-shown : (all shown : List (List ℕ)) (count : ℕ) → count ≡ length all → shown ≡ take 8 all → tuple_with count shown ≡ tuple_text all
-tuple-shown all shown count count_is shown_is =
-    let more = if nat_lt 8 (length all) then comma_behind (length (take 8 all)) ++ codes "..." else [] in
-    ap₂ tuple_with count_is shown_is
-    ∙ ap (λ l. codes "{" ++ l) (sym (append_assoc (comma_list (take 8 all)) more (codes "}")))
-    ∙ ap (λ l. codes "{" ++ (l ++ codes "}")) (sym (rest-shown (take 8 all) (nat_lt 8 (length all))))
-
-tags-take : (es : List Element) → tag_texts (take 8 es) ≡ take 8 (tag_texts es)
-tags-take [] = refl
-tags-take (e ∷ es) = ap (λ l. tag_text e ∷ l) (sym (take-map (λ e. codes "_") 7 es))
-
--- ---- numbers in a list
+use Rattle.message_shapes.specs.Inner.Telling.{content_origin, origin_cells, root_told, roots_told, told_cells, OfCell, OfText, Told}
 
 head-contained : (n : ℕ) (xs : List ℕ) → Contains (n ∷ xs) n
 head-contained n xs = (0, omega arith, refl)
 
-flat-contained : (f : ℕ → List ℕ) (xs : List ℕ) (x n : ℕ) → Contains xs x → Contains (f x) n → Contains (flat_map f xs) n
-flat-contained f [] x n (i, inside, is) has = absurd (omega (arith, inside))
-flat-contained f (y ∷ xs) x n (zero, inside, is) has = Contains-append_left (f y) (flat_map f xs) n (subst (λ z. Contains (f z) n) (sym is) has)
-flat-contained f (y ∷ xs) x n (suc i, inside, is) has = Contains-append_right (f y) (flat_map f xs) n (flat-contained f xs x n (i, omega (arith, inside), is) has)
+module _ (cells : List Cell) (subjects : List ℕ) (ascending : IsStrictlyIncreasing subjects) where
+  abbrev shapes : List (List ℕ)
+  shapes = map (cell_shape cells) subjects
 
--- what a list of images has at the place of a number
-at-place : {X : Type 0} (f : ℕ → X) (xs : List ℕ) (n : ℕ) (past : X) → IsStrictlyIncreasing xs → Contains xs n → option_map_or (λ i. slice_index_or (map f xs) i past) (place_of xs n) past ≡ f n
-at-place f xs n past rising (i, inside, is) =
-    let here : get_or xs i 0 ≡ n = get_or_default xs i 0 n inside ∙ is in
-    ap (λ o. option_map_or (λ i. slice_index_or (map f xs) i past) o past) (sym (found-place xs n i rising inside here))
-    ∙ get_or-map f xs i n past inside
-    ∙ ap f is
+  -- the number of the cell with an address
+  number-in : (address : ℕ) → cell_with (addresses cells) address ≡ number_at cells address
+  number-in address = position-map (λ a. a == address) (λ (cell : Cell). cell.address) cells
 
--- ---- the kind of a cell
+  cell-shown : (n : ℕ) → Contains subjects n → shape_with subjects shapes (OfCell n) ≡ subject_shape cells (form_at cells n)
+  cell-shown n one = at-place (cell_shape cells) subjects n [] ascending one
 
-kind-in : (cells : List Cell) (n : ℕ) → cell_kind (map (λ (cell : Cell). option_map kind_of cell.form) cells) n ≡ option_map kind_of (form_at cells n)
-kind-in [] zero = refl
-kind-in [] (suc n) = refl
-kind-in (cell ∷ cells) zero = refl
-kind-in (cell ∷ cells) (suc n) = kind-in cells n
+  reference-shown : (o : Option ℕ) → ((n : ℕ) → Contains (origin_cells (option_map_or OfCell o (OfText (codes "missing()")))) n → Contains subjects n)
+      → shape_with subjects shapes (option_map_or OfCell o (OfText (codes "missing()"))) ≡ option_map_or (λ n. subject_shape cells (form_at cells n)) o (codes "missing()")
+  reference-shown None among = refl
+  reference-shown (Some n) among = cell-shown n (among n (head-contained n []))
 
--- the number of the cell with an address
-number-in : (cells : List Cell) (address : ℕ) → cell_with (addresses cells) address ≡ number_at cells address
-number-in cells address = position-map (λ a. a == address) (λ (cell : Cell). cell.address) cells
+  content-shown : (content : Content) → ((n : ℕ) → Contains (origin_cells (content_origin (addresses cells) content)) n → Contains subjects n)
+      → shape_with subjects shapes (content_origin (addresses cells) content) ≡ message_shape cells content
+  content-shown (Term (Ref address)) among =
+      ap (λ o. shape_with subjects shapes (option_map_or OfCell o (OfText (codes "missing()")))) (number-in address)
+      ∙ reference-shown (number_at cells address)
+      (λ n there. among n (subst (λ o. Contains (origin_cells (option_map_or OfCell o (OfText (codes "missing()")))) n) (sym (number-in address)) there))
+  content-shown (Term e) among = refl
+  content-shown (Dist text) among = refl
+  content-shown (Info text) among = refl
+  content-shown Unread among = refl
 
-module _ (heap : HeapMap) (lines : List ℕ) (t : TupleMap) (rising : IsStrictlyIncreasing t.cells) (fronts_are : t.fronts ≡ map (front_of heap.cells) t.cells) where
-  abbrev cells : List Cell
-  cells = heap.cells
+  roots-shown : (roots : List BodyRoot) → ((n : ℕ) → Contains (told_cells (map (root_told (addresses cells)) roots)) n → Contains subjects n)
+      → messages_with subjects shapes (map (root_told (addresses cells)) roots) ≡ map (message_of cells) roots
+  roots-shown [] among = refl
+  roots-shown (root ∷ roots) among =
+      let first = origin_cells (content_origin (addresses cells) root.content) in
+      let rest = told_cells (map (root_told (addresses cells)) roots) in
+      ap₂ (λ shape messages. (let one : Message = record { at = root.at; shape = shape } in one) ∷ messages)
+      (content-shown root.content (λ n here. among n (Contains-append_left first rest n here)))
+      (roots-shown roots (λ n there. among n (Contains-append_right first rest n there)))
 
-  abbrev s : SkeletonMap
-  s = skeleton_of heap lines
-
-  front-known : (n : ℕ) → Contains t.cells n → front_at t n ≡ form_front (form_at cells n)
-  front-known n has =
-      ap (λ fronts. option_map_or (λ i. slice_index_or fronts i []) (place_of t.cells n) []) fronts_are
-      ∙ at-place (front_of cells) t.cells n [] rising has
-
-  -- ---- a cell inside a message
-
-  inner-by : (o : Option HeapForm) (front : List Element) → (is_tuple_kind (option_map kind_of o) ≡ true → front ≡ form_front o)
-      → (if is_tuple_kind (option_map kind_of o) then tuple_with (length (places_of cells o)) (tag_texts front) else kind_text (option_map kind_of o)) ≡ form_shape o
-  inner-by None front known = refl
-  inner-by (Some (Tuple es)) front known =
-      tuple-shown (tag_texts es) (tag_texts front) (length (places_of cells (Some (Tuple es))))
-      (length-map es (λ e. cell_in (target cells e)) ∙ sym (tags-count es))
-      (ap tag_texts (known refl) ∙ tags-take es)
-  inner-by (Some form) front known = refl
-
-  abbrev inner_with : Option Kind → List (Option ℕ) → List Element → List ℕ
-  inner_with kind places front = if is_tuple_kind kind then tuple_with (length places) (tag_texts front) else kind_text kind
-
-  inner-is : (n : ℕ) → (is_tuple s n ≡ true → Contains t.cells n) → inner_text s t n ≡ form_shape (form_at cells n)
-  inner-is n has =
-      let o = form_at cells n in
-      let kind_is : cell_kind s.kinds n ≡ option_map kind_of o = kind-in cells n in
-      ap₂ (λ kind places. inner_with kind places (front_at t n)) kind_is (places-of cells n)
-      ∙ inner-by o (front_at t n) (λ tuple. front-known n (has (ap is_tuple_kind kind_is ∙ tuple)))
-
-  -- ---- an element of a message
-
-  abbrev lead : Element → Option ℕ
-  lead e = cell_in (target cells e)
-
-  reference-by : (address : ℕ) (o : Option ℕ) → ((n : ℕ) → Contains (lead_tuple s (cell_in (target_at address o))) n → Contains t.cells n)
-      → option_map_or (inner_text s t) o (codes "missing()") ≡ option_map_or (λ n. form_shape (form_at cells n)) o (codes "missing()")
-  reference-by address None has = refl
-  reference-by address (Some n) has =
-      inner-is n (λ tuple. has n (subst (λ b. Contains (if b then n ∷ [] else []) n) (sym tuple) (head-contained n [])))
-
-  element-is : (e : Element) → ((n : ℕ) → Contains (lead_tuple s (lead e)) n → Contains t.cells n) → element_text s t e ≡ element_shape cells e
-  element-is (Ref address) has =
-      ap (λ o. option_map_or (inner_text s t) o (codes "missing()")) (number-in cells address)
-      ∙ reference-by address (number_at cells address) has
-  element-is e has = refl
-
-  elements-are : (es : List Element) → ((n : ℕ) → Contains (flat_map (lead_tuple s) (map lead es)) n → Contains t.cells n) → map (element_text s t) es ≡ map (element_shape cells) es
-  elements-are [] has = refl
-  elements-are (e ∷ es) has =
-      ap₂ (λ text texts. text ∷ texts)
-      (element-is e (λ n here. has n (Contains-append_left (lead_tuple s (lead e)) (flat_map (lead_tuple s) (map lead es)) n here)))
-      (elements-are es (λ n there. has n (Contains-append_right (lead_tuple s (lead e)) (flat_map (lead_tuple s) (map lead es)) n there)))
-
-  -- ---- a cell to which a message refers
-
-  abbrev needed_with : ℕ → Option Kind → List (Option ℕ) → List ℕ
-  needed_with n kind places = if is_tuple_kind kind then n ∷ flat_map (lead_tuple s) (take 8 places) else []
-
-  abbrev subject_with : Option Kind → List (Option ℕ) → List Element → List ℕ
-  subject_with kind places front = if is_tuple_kind kind then tuple_with (length places) (map (element_text s t) front) else kind_text kind
-
-  subject-by : (n : ℕ) (o : Option HeapForm) (front : List Element) → (is_tuple_kind (option_map kind_of o) ≡ true → front ≡ form_front o)
-      → ((m : ℕ) → Contains (needed_with n (option_map kind_of o) (places_of cells o)) m → Contains t.cells m)
-      → subject_with (option_map kind_of o) (places_of cells o) front ≡ subject_shape cells o
-  subject-by n None front known has = refl
-  subject-by n (Some (Tuple es)) front known has =
-      let leads : List (Option ℕ) = take 8 (map lead es) in
-      tuple-shown (map (element_shape cells) es) (map (element_text s t) front) (length (places_of cells (Some (Tuple es))))
-      (length-map es lead ∙ sym (length-map es (element_shape cells)))
-      (ap (map (element_text s t)) (known refl)
-      ∙ elements-are (take 8 es) (λ m there. has m
-      (Contains-append_right (n ∷ []) (flat_map (lead_tuple s) leads) m
-      (subst (λ l. Contains (flat_map (lead_tuple s) l) m) (sym (take-map lead 8 es)) there)))
-      ∙ sym (take-map (element_shape cells) 8 es))
-  subject-by n (Some form) front known has = refl
-
-  subject-is : (n : ℕ) → ((m : ℕ) → Contains (needed_at s n) m → Contains t.cells m) → subject_text s t n ≡ subject_shape cells (form_at cells n)
-  subject-is n has =
-      let o = form_at cells n in
-      let kind_is : cell_kind s.kinds n ≡ option_map kind_of o = kind-in cells n in
-      let places_are : places_at s.leads n ≡ places_of cells o = places-of cells n in
-      ap₂ (λ kind places. subject_with kind places (front_at t n)) kind_is places_are
-      ∙ subject-by n o (front_at t n)
-      (λ tuple. front-known n (has n (subst (λ b. Contains (if b then n ∷ flat_map (lead_tuple s) (take 8 (places_at s.leads n)) else []) n) (sym (ap is_tuple_kind kind_is ∙ tuple)) (head-contained n _))))
-      (λ m there. has m (subst (λ l. Contains l m) (sym (ap₂ (needed_with n) kind_is places_are)) there))
-
-  -- ---- messages
-
-  module _ (subjects : List ℕ) (ascending : IsStrictlyIncreasing subjects) (has : (m : ℕ) → Contains (needed s subjects) m → Contains t.cells m) where
-    abbrev shapes : List (List ℕ)
-    shapes = map (subject_text s t) subjects
-
-    cell-shown : (n : ℕ) → Contains subjects n → shape_with subjects shapes (OfCell n) ≡ subject_shape cells (form_at cells n)
-    cell-shown n one =
-        at-place (subject_text s t) subjects n [] ascending one
-        ∙ subject-is n (λ m there. has m (flat-contained (needed_at s) subjects n m one there))
-
-    reference-shown : (o : Option ℕ) → ((n : ℕ) → Contains (origin_cells (option_map_or OfCell o (OfText (codes "missing()")))) n → Contains subjects n)
-        → shape_with subjects shapes (option_map_or OfCell o (OfText (codes "missing()"))) ≡ option_map_or (λ n. subject_shape cells (form_at cells n)) o (codes "missing()")
-    reference-shown None among = refl
-    reference-shown (Some n) among = cell-shown n (among n (head-contained n []))
-
-    content-shown : (content : Content) → ((n : ℕ) → Contains (origin_cells (content_origin s.addresses content)) n → Contains subjects n)
-        → shape_with subjects shapes (content_origin s.addresses content) ≡ message_shape cells content
-    content-shown (Term (Ref address)) among =
-        ap (λ o. shape_with subjects shapes (option_map_or OfCell o (OfText (codes "missing()")))) (number-in cells address)
-        ∙ reference-shown (number_at cells address)
-        (λ n there. among n (subst (λ o. Contains (origin_cells (option_map_or OfCell o (OfText (codes "missing()")))) n) (sym (number-in cells address)) there))
-    content-shown (Term e) among = refl
-    content-shown (Dist text) among = refl
-    content-shown (Info text) among = refl
-    content-shown Unread among = refl
-
-    roots-shown : (roots : List BodyRoot) → ((n : ℕ) → Contains (told_cells (map (root_told s.addresses) roots)) n → Contains subjects n)
-        → messages_with subjects shapes (map (root_told s.addresses) roots) ≡ map (message_of cells) roots
-    roots-shown [] among = refl
-    roots-shown (root ∷ roots) among =
-        let first = origin_cells (content_origin s.addresses root.content) in
-        let rest = told_cells (map (root_told s.addresses) roots) in
-        ap₂ (λ shape messages. (let one : Message = record { at = root.at; shape = shape } in one) ∷ messages)
-        (content-shown root.content (λ n here. among n (Contains-append_left first rest n here)))
-        (roots-shown roots (λ n there. among n (Contains-append_right first rest n there)))
-
--- the messages of a mailbox, from what was kept of it and of the heap
-pub mail-shown : (dump : List ℕ) (index : Contents) (pid : List ℕ) (s : SkeletonMap) (t : TupleMap) (heard : List Told) (subjects numbers : List ℕ) (texts : List (List ℕ))
+-- the messages of a mailbox, from what was kept of it and the shapes of the cells
+pub mail-shown : (dump : List ℕ) (index : Contents) (pid : List ℕ) (s : SkeletonMap) (heard : List Told) (subjects : List ℕ) (texts : List (List ℕ))
     → s ≡ skeleton_for dump index pid → heard ≡ roots_told s.addresses (mail_roots dump index pid)
     → IsStrictlyIncreasing subjects → ((n : ℕ) → Contains (told_cells heard) n → Contains subjects n)
-    → IsStrictlyIncreasing numbers → ((m : ℕ) → Contains (needed s subjects) m → Contains numbers m)
-    → t.cells ≡ numbers → t.fronts ≡ fronts_for dump index pid numbers → texts ≡ map (subject_text s t) subjects
-    → messages_with subjects texts heard ≡ messages_of (mail_cells dump index pid) (mail_roots dump index pid)
-mail-shown dump index pid s t heard subjects numbers texts s_is heard_is ascending among rising has numbers_are fronts_are texts_are =
-    let sections = sections_in index in
-    let heap = heap_in dump index (heap_section pid sections) (literals_section sections) in
-    let lines = lines_in dump (heap_section pid sections) (literals_section sections) in
-    let whole : SkeletonMap = skeleton_of heap lines in
+    → texts ≡ cell_shapes dump index pid subjects
+    → messages_with subjects texts heard ≡ messages_of (cells_for dump index pid) (mail_roots dump index pid)
+mail-shown dump index pid s heard subjects texts s_is heard_is ascending among texts_are =
+    let cells = cells_for dump index pid in
     let roots = mail_roots dump index pid in
-    let told_is : heard ≡ roots_told whole.addresses roots = heard_is ∙ ap (λ (k : SkeletonMap). roots_told k.addresses roots) s_is in
-    ap₂ (messages_with subjects) (texts_are ∙ ap (λ k. map (subject_text k t) subjects) s_is) told_is
-    ∙ roots-shown heap lines t
-    (subst IsStrictlyIncreasing (sym numbers_are) rising)
-    (fronts_are ∙ ap (map (front_of heap.cells)) (sym numbers_are))
-    subjects ascending
-    (λ m there. subst (λ l. Contains l m) (sym numbers_are) (has m (subst (λ k. Contains (needed k subjects) m) (sym s_is) there)))
-    (filter is_message roots)
+    let told_is : heard ≡ roots_told (addresses cells) roots = heard_is ∙ ap (λ (k : SkeletonMap). roots_told k.addresses roots) s_is in
+    ap₂ (messages_with subjects) texts_are told_is
+    ∙ roots-shown cells subjects ascending (filter is_message roots)
     (λ n there. among n (subst (λ l. Contains (told_cells l) n) (sym told_is) there))

@@ -4,8 +4,6 @@ use Rattle.dump_sections.specs.Bodies.{body_in, body_start}
 use Rattle.dump_sections.specs.Index.{Contents, sections_in}
 use Rattle.dump_sections.specs.Sections.{Section}
 use Rattle.heap_cells.specs.Cells.{Cell}
-use Rattle.heap_cells.specs.Loading.{heap_section, literals_section}
-use Rattle.heap_skeleton.specs.Skeletons.{heap_in}
 use Rattle.root_views.specs.Placed.{placed_roots}
 use Rattle.root_views.specs.Roots.{BodyRoot, is_message}
 use Rattle.root_views.specs.Sections.{root_section}
@@ -14,6 +12,7 @@ use Rattle.text_groups.specs.Sorting.{most_first}
 use Rattle.text_groups.specs.Groups.{Item, groups}
 use Rattle.text_groups.specs.Numbers.{weightless}
 use Rattle.text_groups.specs.declared.text_group.TextGroup.{TextGroup}
+use Rattle.tuple_fronts.specs.Fronts.{cells_for}
 use Rattle.message_shapes.specs.Shapes.{message_shape}
 
 -- a message: the offset of its line, and its shape
@@ -62,13 +61,6 @@ roots_in_mail dump found = placed_roots Mail (body_start found) (body_in dump fo
 abbrev pub mail_roots : List ℕ → Contents → List ℕ → List BodyRoot
 mail_roots dump index pid = roots_in_mail dump (root_section Mail pid (sections_in index))
 
--- the cells of its heap, followed by those of the literals
-abbrev pub mail_cells : List ℕ → Contents → List ℕ → List Cell
-mail_cells dump index pid =
-    let sections = sections_in index in
-    let heap = heap_in dump index (heap_section pid sections) (literals_section sections) in
-    heap.cells
-
 -- the messages of a process's mailbox, with their groups
 abbrev pub mail_shapes : List ℕ → Contents → List ℕ → ShapeMap
-mail_shapes dump index pid = grouped_by_shape (messages_of (mail_cells dump index pid) (mail_roots dump index pid))
+mail_shapes dump index pid = grouped_by_shape (messages_of (cells_for dump index pid) (mail_roots dump index pid))

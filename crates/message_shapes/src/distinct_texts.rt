@@ -2,10 +2,10 @@
 ghost use Rattle.std.specs.Prelude.{◌≡◌, ◌<◌, [], length, slice_get, Some, IfOk, IfSome};
 ghost use Rattle.text_groups.specs.Numbers.{IsGrown};
 
-use crate::texts::Texts;
 use std::alloc::{AllocError, Global};
 use std::collections::BTreeMap;
 use std::marker::Model;
+use tuple_fronts::Texts;
 
 /// Different texts, with numbers from 0. Contracts see the list of them.
 #[derive(Drop)]

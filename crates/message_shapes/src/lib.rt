@@ -17,17 +17,12 @@
 //! ```
 #![tactic(auto)]
 
-mod cell_set;
-mod cell_texts;
 mod distinct_texts;
 mod heard;
+mod mail_cells;
 mod mail_sink;
 mod messages;
-mod needed;
 mod shape_numbers;
 mod shapes;
-mod texts;
-mod tuples;
-mod words;
 
 pub use shapes::MailShapes;

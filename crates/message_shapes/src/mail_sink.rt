@@ -11,16 +11,17 @@ ghost use Rattle.root_views.specs.Sections.{root_section};
 ghost use Rattle.root_views.specs.declared.kinds.RootKind.TheVariants.{Mail};
 ghost use Rattle.message_shapes.specs.Messages.{mail_roots};
 ghost use Rattle.message_shapes.specs.Inner.Hearing.{IsReady, Tells, TellsSection};
-ghost use Rattle.message_shapes.specs.Inner.Telling.{content_origin, element_origin, plain_shape, roots_told, AreCells, OfText};
+ghost use Rattle.message_shapes.specs.Inner.Telling.{content_origin, element_origin, roots_told, AreCells, OfText};
+ghost use Rattle.tuple_fronts.specs.Shapes.{plain_shape};
 
 use crate::heard::Heard;
-use crate::words::push_plain;
 use dump_io::{Dumps, ReadFault};
 use dump_sections::Index;
 use heap_skeleton::Skeleton;
 use root_views::{EachRoot, Root, RootKind, What, hear_roots};
 use std::alloc::{AllocError, Global};
 use term_forms::shapes::Elem;
+use tuple_fronts::push_plain;
 
 // Keeps the messages that it hears.
 #[derive(Drop)]

@@ -3,13 +3,12 @@ ghost use Rattle.std.specs.Prelude.{◌≡◌, ◌<◌, All, length, map, IfOk};
 ghost use Rattle.text_groups.specs.Groups.{groups};
 ghost use Rattle.message_shapes.specs.Messages.{item_of, message_at};
 
-use crate::cell_set::CellSet;
 use crate::heard::{Heard, Source};
 use crate::shape_numbers::number_messages;
-use crate::texts::Texts;
 use std::alloc::{AllocError, Global};
 use std::marker::Model;
 use text_groups::{TextGroup, group_numbers};
+use tuple_fronts::{CellSet, Texts};
 
 /// Messages with their shapes. Contracts see the list of them.
 #[derive(Drop)]

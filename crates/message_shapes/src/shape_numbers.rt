@@ -4,11 +4,10 @@ ghost use Rattle.text_groups.specs.Numbers.{number_in, HaveNumbers, IsGrown};
 ghost use Rattle.message_shapes.specs.Messages.{message_at};
 ghost use Rattle.message_shapes.specs.Inner.Shaped.{messages_with, AreNumbered};
 
-use crate::cell_set::CellSet;
 use crate::heard::{Heard, Source};
-use crate::texts::Texts;
 use std::alloc::{AllocError, Global};
 use text_groups::TextNumbers;
+use tuple_fronts::{CellSet, Texts};
 
 /// The number of the shape of each message, and how many different shapes there are.
 #[derive(Drop)]

@@ -9,21 +9,21 @@ ghost use Rattle.heap_cells.specs.Loading.{heap_bodies};
 ghost use Rattle.heap_skeleton.specs.Skeletons.{skeleton_for};
 ghost use Rattle.root_views.specs.Sections.{root_section};
 ghost use Rattle.root_views.specs.declared.kinds.RootKind.TheVariants.{Mail};
-ghost use Rattle.message_shapes.specs.Messages.{mail_cells, mail_roots, mail_shapes, message_at, messages_of, shape_groups};
+ghost use Rattle.tuple_fronts.specs.Fronts.{cells_for};
+ghost use Rattle.message_shapes.specs.Messages.{mail_roots, mail_shapes, message_at, messages_of, shape_groups};
 ghost use Rattle.message_shapes.specs.Inner.Telling.{roots_told, AreCells};
 
-use crate::cell_texts::{inner_texts, subject_texts};
 use crate::heard::Heard;
+use crate::mail_cells::subject_cells;
 use crate::mail_sink::hear_mail;
 use crate::messages::Messages;
-use crate::needed::{needed_cells, subject_cells};
-use crate::tuples::Tuples;
 use dump_io::{Dumps, ReadFault};
 use dump_sections::Index;
 use heap_skeleton::Skeleton;
 use std::alloc::{AllocError, Global};
 use std::marker::Model;
 use text_groups::{TextGroup, sort_most_first};
+use tuple_fronts::cell_shapes;
 
 /// The messages of a mailbox with their shapes, and the groups of those that have the same. Contracts see both.
 #[derive(Drop)]
@@ -63,14 +63,10 @@ fn shape_messages<D: Dumps>(
         (bodies_length (heap_bodies pid.now (sections_in index.now))) }
     ensures fault { IfErr result (IsReadCauseOf (D.state dumps.old) (D.state dumps.new)) }
     ensures messages { IfOk result (λ messages. IfTold (D.state dumps.old).now (λ dump.
-        messages ≡ messages_of (mail_cells dump index.now pid.now) (mail_roots dump index.now pid.now))) }
+        messages ≡ messages_of (cells_for dump index.now pid.now) (mail_roots dump index.now pid.now))) }
 {
-    skeleton.leads_are_cells();
     let cells = subject_cells(alloc, &heard)?;
-    let needed = needed_cells(alloc, skeleton, &cells)?;
-    let tuples = Tuples::load(alloc, dumps, index, pid, skeleton, needed)?;
-    let inner = inner_texts(alloc, skeleton, &tuples)?;
-    let shapes = subject_texts(alloc, skeleton, &tuples, &inner, &cells)?;
+    let shapes = cell_shapes(alloc, dumps, index, pid, skeleton, &cells)?;
     Ok(Messages {
         heard,
         cells,

@@ -1,3 +1,2 @@
-pub mod HearFacts
 pub mod HeldFacts
 pub mod ShareFacts

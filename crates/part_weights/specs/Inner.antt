@@ -1,4 +1,3 @@
 -- What only private functions cite.
-pub mod Hearing
 pub mod Held
 pub mod Shown

@@ -1,4 +1,3 @@
 pub mod Inner
-pub mod Roots
 pub mod Shown
 pub mod Weights

@@ -12,7 +12,7 @@ use Rattle.heap_weights.specs.Shares.{weight_below, weight_of, weights_from}
 use Rattle.heap_weights.specs.declared.holders.Holder.TheVariants.{Several}
 use Rattle.heap_weights.specs.declared.shares.Weight.{Weight}
 use Rattle.text_groups.specs.Sorting.{most_first}
-use Rattle.part_weights.specs.Roots.{all_roots, roots_elements}
+use Rattle.root_parts.specs.Roots.{all_roots, roots_elements}
 
 -- a part: the words and the number of the cells that it alone holds, the kind and the address of
 -- its cell, how many elements lead to it, and where the first of them stands

@@ -17,7 +17,6 @@
 
 mod held_parts;
 mod part_rows;
-mod root_parts;
 mod weights;
 
 pub use part_rows::PartRow;

@@ -13,16 +13,17 @@ ghost use Rattle.cell_parts.specs.Elements.{cell_elements};
 ghost use Rattle.cell_parts.specs.Parts.{ArePartsOf, PartElement};
 ghost use Rattle.part_weights.specs.Weights.{address_weighing, cell_weighing, root_weighing, weighing};
 ghost use Rattle.part_weights.specs.Shown.{row};
-ghost use Rattle.part_weights.specs.Inner.Shown.{AreParts, IsOver};
+ghost use Rattle.root_parts.specs.Over.{IsOver};
+ghost use Rattle.part_weights.specs.Inner.Shown.{AreParts};
 
 use crate::held_parts::{HeldPart, sorted_parts};
 use crate::part_rows::PartRow;
-use crate::root_parts::read_parts;
 use cell_parts::{Parts, add_elements};
 use dump_io::{Dumps, ReadFault};
 use dump_sections::Index;
 use heap_skeleton::Skeleton;
 use heap_weights::{Shares, Weight, weigh};
+use root_parts::read_parts;
 use std::alloc::{AllocError, Global};
 use std::marker::Model;
 

@@ -17,9 +17,13 @@ form_front form = []
 abbrev pub front_of : List Cell → ℕ → List Element
 front_of cells number = form_front (form_at cells number)
 
--- the first elements of each of these cells of the heap of the process with this pid
-abbrev pub fronts_for : List ℕ → Contents → List ℕ → List ℕ → List (List Element)
-fronts_for dump index pid numbers =
+-- the cells of the heap of the process with this pid, followed by those of the literals
+abbrev pub cells_for : List ℕ → Contents → List ℕ → List Cell
+cells_for dump index pid =
     let sections = sections_in index in
     let heap = heap_in dump index (heap_section pid sections) (literals_section sections) in
-    map (front_of heap.cells) numbers
+    heap.cells
+
+-- the first elements of each of these cells of the heap of the process with this pid
+abbrev pub fronts_for : List ℕ → Contents → List ℕ → List ℕ → List (List Element)
+fronts_for dump index pid numbers = map (front_of (cells_for dump index pid)) numbers

@@ -1,3 +1,6 @@
 -- What only private functions cite.
+pub mod CellTexts
 pub mod Hearing
 pub mod Kept
+pub mod Texts
+pub mod Tuples

@@ -1,2 +1,6 @@
+pub mod CellSets
+pub mod CellShapes
 pub mod Fronts
 pub mod Inner
+pub mod Laws
+pub mod Shapes

@@ -1,4 +1,4 @@
-//! The first elements of some tuples of a heap of any size, which are read again.
+//! The first elements of some tuples of a heap of any size, which are read again, and the shapes of its cells.
 //!
 //! A skeleton (`heap_skeleton`) has where the line of each cell of a heap begins, and no text. [`TupleFronts::load`] reads
 //! the heap once more, and keeps of the tuples that are asked for the texts of the first 8 elements, all in one pool: for
@@ -12,14 +12,28 @@
 //!     let e = fronts.element(1, place); // of the cell with the number 5
 //! }
 //! ```
+//!
+//! The *shape* of a cell says of what kind it is, and of a tuple what its first elements are (`specs/Shapes.antt`):
+//! [`cell_shapes`] has that of a message that refers to it, as `{'$gen_cast',{put,_,_}}`, and [`inner_shapes`] that which
+//! it has inside a message, as `{put,_,_}`. Of an atom at most the first 255 bytes are shown. The cells are a [`CellSet`].
 #![tactic(auto)]
 
+mod cell_set;
+mod cell_texts;
 mod first_elements;
 mod front_lines;
 mod front_sink;
 mod fronts;
 mod kept;
+mod needed;
 mod runs;
+mod shapes;
+mod texts;
+mod tuples;
+mod words;
 
-pub use first_elements::MOST_ELEMENTS;
+pub use cell_set::CellSet;
 pub use fronts::TupleFronts;
+pub use shapes::{cell_shapes, inner_shapes};
+pub use texts::Texts;
+pub use words::push_plain;

@@ -4,7 +4,7 @@ use Rattle.std.specs.Option.{option_map_or}
 use Rattle.text_groups.specs.Numbers.{HaveNumbers}
 use Rattle.message_shapes.specs.Messages.{Message}
 use Rattle.message_shapes.specs.Inner.Telling.{Origin, OfCell, OfText, Told}
-use Rattle.message_shapes.specs.Inner.Tuples.{place_of}
+use Rattle.tuple_fronts.specs.CellSets.{place_of}
 
 -- the shape of what refers to one of these cells, which have these shapes, or has its own
 abbrev pub shape_with : List ℕ → List (List ℕ) → Origin → List ℕ

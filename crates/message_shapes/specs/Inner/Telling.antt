@@ -1,9 +1,10 @@
 -- What is told of messages as they are heard: where each stands, and to which cell it refers or what its shape is.
-use Rattle.std.specs.Prelude.{ℕ, ◌==◌, ◌<◌, List, [], ◌∷◌, map, filter, flat_map, codes, length, position, slice_index_or, All, Option}
+use Rattle.std.specs.Prelude.{ℕ, ◌<◌, List, [], ◌∷◌, map, filter, flat_map, codes, length, slice_index_or, All}
 use Rattle.std.specs.Option.{option_map_or}
-use Rattle.term_forms.specs.Elements.{Element, Nil, Small, Atom, Pid, Port, Ref}
+use Rattle.term_forms.specs.Elements.{Element, Ref}
 use Rattle.root_views.specs.Roots.{BodyRoot, Content, Term, Info, Dist, Unread, is_message}
-use Rattle.message_shapes.specs.Shapes.{atom_shape}
+use Rattle.tuple_fronts.specs.Shapes.{plain_shape}
+use Rattle.tuple_fronts.specs.CellSets.{cell_with}
 use Rattle.message_shapes.specs.declared.heard.Found.{Found}
 use Rattle.message_shapes.specs.declared.heard.Source.{Source}
 use Rattle.message_shapes.specs.declared.heard.Source.TheVariants as source
@@ -58,19 +59,6 @@ shown_source (source.Cell cell) = OfCell cell
 shown_source (source.Text text) = OfText text.now
 
 -- ---- of roots
-
--- the shape of an element that leads to no cell
-abbrev pub plain_shape : Element → List ℕ
-plain_shape Nil = codes "[]"
-plain_shape (Small integer) = codes "integer()"
-plain_shape (Atom name) = atom_shape name
-plain_shape (Pid pid) = codes "pid()"
-plain_shape (Port port) = codes "port()"
-plain_shape (Ref address) = codes "missing()"
-
--- the number of the cell with an address, given the addresses of all
-abbrev pub cell_with : List ℕ → ℕ → Option ℕ
-cell_with addresses address = position (λ a. a == address) addresses
 
 -- what a message is that is a term
 abbrev pub element_origin : List ℕ → Element → Origin

@@ -5,6 +5,7 @@ use Rattle.heap_skeleton.specs.Skeletons.{SkeletonMap}
 use Rattle.heap_weights.specs.Shares.{AreShares}
 use Rattle.heap_weights.specs.declared.shares.Shares.{Shares}
 use Rattle.heap_weights.specs.declared.shares.Weight.{Weight}
+use Rattle.root_parts.specs.Over.{IsOver}
 use Rattle.part_weights.specs.Weights.{Row, Weighing, row_of}
 use Rattle.part_weights.specs.declared.held_parts.HeldPart.{HeldPart}
 
@@ -31,11 +32,6 @@ weighing_with heap parts held within shared reached own = record {
   elements = parts.elements;
   parts = length parts.parts;
 }
-
--- the parts are of as many cells as the skeleton has
-pub record IsOver (heap : SkeletonMap) (parts : CellParts) : Type 0 where
-  pub addresses : parts.cells ≡ length heap.addresses
-  pub leads : parts.cells ≡ length heap.leads
 
 -- the parts are of as many cells as the skeleton has, and those that alone hold a cell are some of them
 pub record IsSound (heap : SkeletonMap) (parts : CellParts) (held : List HeldPart) : Type 0 where

@@ -1,7 +1,0 @@
-use Rattle.std.proofs.Common.{◌≡◌, take, map}
-use Rattle.message_shapes.specs.Inner.CellTexts.{inner_text}
-use Rattle.message_shapes.proofs.cell_texts.inner_texts.Given as goal
-
--- the shapes of the cells so far
-abbrev pub invariant-loop-cell : goal.invariant-loop-cell
-invariant-loop-cell l = l.texts ≡ map (inner_text l.skeleton l.tuples) (take l.cell-index l.tuples.cells)

@@ -1,0 +1,71 @@
+-- Texts with commas between them, one after another.
+use Rattle.std.proofs.Common.{◌≡◌, ℕ, zero, suc, ◌+◌, ◌<◌, ◌≤◌, List, [], ◌∷◌, ◌++◌, length, map, take, Some, refl, sym, ◌∙◌, ap, arith, append_assoc}
+use Rattle.std.specs.Prelude.{codes, slice_get, ◌==◌, if◌then◌else◌}
+use Rattle.std.specs.Option.{option_map}
+use Rattle.std.proofs.lemmas.Bool.{eqb-true, false_from_ne_true, lt-ltb}
+use Rattle.std.proofs.lemmas.List.{length-map, length-take-le, take_all}
+use Rattle.std.proofs.lemmas.Option.{none-some, same_Some, slice_get-map, slice_get_within}
+use Rattle.dump_io.specs.Laws.Lists.{take-at}
+use Rattle.term_forms.specs.Elements.{Element}
+use Rattle.tuple_fronts.specs.Shapes.{comma_list, tag_text, tag_texts}
+use Rattle.tuple_fronts.specs.Inner.CellTexts.{comma_behind, tag_at}
+
+-- behind the first element there is a comma
+behind-some : (n : ℕ) → comma_behind (suc n) ≡ codes ","
+behind-some n = ap (λ b. if b then codes "," else []) (lt-ltb 0 (suc n) (omega arith))
+
+-- no other element stands at the first place
+other-place : (i : ℕ) (e : Element) → codes "_" ≡ tag_at (suc i) e
+other-place i e = ap (λ b. if b then tag_text e else codes "_") (sym (false_from_ne_true (suc i == 0) (λ is. no-zero (eqb-true (suc i) 0 is))))
+  where
+    no-zero : suc i ≡ 0 → ⊥
+    no-zero is = omega (arith, is)
+
+-- one more text
+pub comma-last : (texts : List (List ℕ)) (text : List ℕ) → comma_list (texts ++ text ∷ []) ≡ comma_list texts ++ (comma_behind (length texts) ++ text)
+comma-last [] text = refl
+comma-last (first ∷ []) text = refl
+comma-last (first ∷ second ∷ texts) text =
+    let inner = comma_list (second ∷ texts) in
+    let before = comma_behind (length (second ∷ texts)) in
+    let after = comma_behind (length (first ∷ second ∷ texts)) in
+    ap (λ l. first ++ (codes "," ++ l)) (comma-last (second ∷ texts) text)
+    ∙ ap (λ l. first ++ l) (sym (append_assoc (codes ",") inner (before ++ text)))
+    ∙ sym (append_assoc first (codes "," ++ inner) (before ++ text))
+    ∙ ap (λ c. (first ++ (codes "," ++ inner)) ++ (c ++ text)) (behind-some (length texts) ∙ sym (behind-some (suc (length texts))))
+
+-- the next text behind those before
+pub comma-next : (texts : List (List ℕ)) (i : ℕ) (text before now comma after : List ℕ) → slice_get texts i ≡ Some text → now ≡ before ++ comma_list (take i texts) → comma ≡ now ++ comma_behind i → after ≡ comma ++ text
+    → after ≡ before ++ comma_list (take (i + 1) texts)
+comma-next texts i text before now comma after at now_is comma_is after_is =
+    let inside : i < length texts = slice_get_within texts i text at in
+    let count : length (take i texts) ≡ i = length-take-le i texts (omega (arith, inside)) in
+    after_is
+    ∙ ap (λ l. l ++ text) (comma_is ∙ ap (λ l. l ++ comma_behind i) now_is)
+    ∙ append_assoc (before ++ comma_list (take i texts)) (comma_behind i) text
+    ∙ append_assoc before (comma_list (take i texts)) (comma_behind i ++ text)
+    ∙ ap (λ l. before ++ l)
+    (ap (λ n. comma_list (take i texts) ++ (comma_behind n ++ text)) (sym count)
+    ∙ sym (comma-last (take i texts) text)
+    ∙ ap comma_list (sym (take-at texts i text at)))
+
+-- all of them
+pub comma-all : (texts : List (List ℕ)) (i : ℕ) (before now : List ℕ) → length texts ≤ i → now ≡ before ++ comma_list (take i texts) → now ≡ before ++ comma_list texts
+comma-all texts i before now all is = is ∙ ap (λ l. before ++ comma_list l) (take_all i texts all)
+
+-- ---- the elements of a tuple inside a message
+
+pub tags-count : (es : List Element) → length (tag_texts es) ≡ length es
+tags-count [] = refl
+tags-count (e ∷ es) = ap suc (length-map es (λ e. codes "_"))
+
+pub tag-there : (es : List Element) (i : ℕ) (e : Element) → slice_get es i ≡ Some e → slice_get (tag_texts es) i ≡ Some (tag_at i e)
+tag-there [] zero e is = absurd (none-some e is)
+tag-there [] (suc i) e is = absurd (none-some e is)
+tag-there (first ∷ es) zero e is = ap (λ f. Some (tag_text f)) (same_Some first e is)
+tag-there (first ∷ es) (suc i) e is = slice_get-map (λ e. codes "_") es i ∙ ap (option_map (λ e. codes "_")) is ∙ ap Some (other-place i e)
+
+-- ---- those of a message
+
+pub text-there : (f : Element → List ℕ) (es : List Element) (i : ℕ) (e : Element) → slice_get es i ≡ Some e → slice_get (map f es) i ≡ Some (f e)
+text-there f es i e is = slice_get-map f es i ∙ ap (option_map f) is

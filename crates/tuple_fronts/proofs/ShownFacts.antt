@@ -1,0 +1,197 @@
+-- The shapes of cells, from the skeleton of the heap and the first elements of tuples.
+use Rattle.std.proofs.Common.{◌≡◌, ℕ, zero, suc, ◌==◌, Bool, true, false, List, [], ◌∷◌, ◌++◌, length, map, take, Option, None, Some, refl, sym, ◌∙◌, ap, ap₂, subst, arith, append_assoc, append-nil}
+use Rattle.std.specs.Prelude.{codes, flat_map, nat_lt, slice_index_or, Contains, if◌then◌else◌}
+use Rattle.std.specs.Option.{option_map, option_map_or}
+use Rattle.std.specs.List.Sorted.{IsStrictlyIncreasing}
+use Rattle.std.proofs.lemmas.List.{length-map, take-map}
+use Rattle.std.proofs.lemmas.List.Elements.{Contains-append_left, Contains-append_right}
+use Rattle.cell_graphs.specs.Graphs.{cell_in, places_at, places_of}
+use Rattle.cell_graphs.specs.Laws.HeapGraphs.{places-of}
+use Rattle.cell_parts.specs.Kinds.{cell_kind}
+use Rattle.cell_records.specs.declared.cells.Kind.{Kind}
+use Rattle.dump_io.specs.Laws.Lists.{position-map}
+use Rattle.heap_cells.specs.Cells.{Cell, addresses, kind_of}
+use Rattle.heap_cells.specs.HeapMap.{HeapMap, form_at, number_at}
+use Rattle.heap_cells.specs.Targets.{target, target_at}
+use Rattle.dump_sections.specs.Index.{Contents, sections_in}
+use Rattle.heap_cells.specs.Loading.{heap_section, literals_section}
+use Rattle.heap_skeleton.specs.Skeletons.{SkeletonMap, heap_in, is_tuple, is_tuple_kind, lines_in, skeleton_for, skeleton_of}
+use Rattle.term_forms.specs.Elements.{Element, Ref}
+use Rattle.term_forms.specs.Forms.{HeapForm, Tuple}
+use Rattle.tuple_fronts.specs.Fronts.{cells_for, form_front, front_of, fronts_for}
+use Rattle.tuple_fronts.specs.Shapes.{cell_shape, comma_list, element_shape, form_shape, inner_shape, subject_shape, tag_text, tag_texts, tuple_text}
+use Rattle.tuple_fronts.specs.Inner.CellTexts.{comma_behind, element_text, inner_text, kind_text, subject_text, tuple_with}
+use Rattle.tuple_fronts.specs.CellSets.{cell_with, place_of}
+use Rattle.tuple_fronts.specs.Inner.Tuples.{TupleMap, front_at, lead_tuple, needed, needed_at}
+use Rattle.tuple_fronts.specs.CellShapes.{cell_shapes, inner_shapes}
+use Rattle.tuple_fronts.specs.Laws.CellSets.{at-place}
+use Rattle.tuple_fronts.proofs.CommaFacts.{comma-last, tags-count}
+
+-- ---- a tuple
+
+rest-shown : (shown : List (List ℕ)) (b : Bool) → comma_list (shown ++ (if b then codes "..." ∷ [] else [])) ≡ comma_list shown ++ (if b then comma_behind (length shown) ++ codes "..." else [])
+rest-shown shown true = comma-last shown (codes "...")
+rest-shown shown false = ap comma_list (append-nil shown) ∙ sym (append-nil (comma_list shown))
+
+tuple-shown : (all shown : List (List ℕ)) (count : ℕ) → count ≡ length all → shown ≡ take 8 all → tuple_with count shown ≡ tuple_text all
+tuple-shown all shown count count_is shown_is =
+    let more = if nat_lt 8 (length all) then comma_behind (length (take 8 all)) ++ codes "..." else [] in
+    ap₂ tuple_with count_is shown_is
+    ∙ ap (λ l. codes "{" ++ l) (sym (append_assoc (comma_list (take 8 all)) more (codes "}")))
+    ∙ ap (λ l. codes "{" ++ (l ++ codes "}")) (sym (rest-shown (take 8 all) (nat_lt 8 (length all))))
+
+tags-take : (es : List Element) → tag_texts (take 8 es) ≡ take 8 (tag_texts es)
+tags-take [] = refl
+tags-take (e ∷ es) = ap (λ l. tag_text e ∷ l) (sym (take-map (λ e. codes "_") 7 es))
+
+-- ---- numbers in a list
+
+head-contained : (n : ℕ) (xs : List ℕ) → Contains (n ∷ xs) n
+head-contained n xs = (0, omega arith, refl)
+
+flat-contained : (f : ℕ → List ℕ) (xs : List ℕ) (x n : ℕ) → Contains xs x → Contains (f x) n → Contains (flat_map f xs) n
+flat-contained f [] x n (i, inside, is) has = absurd (omega (arith, inside))
+flat-contained f (y ∷ xs) x n (zero, inside, is) has = Contains-append_left (f y) (flat_map f xs) n (subst (λ z. Contains (f z) n) (sym is) has)
+flat-contained f (y ∷ xs) x n (suc i, inside, is) has = Contains-append_right (f y) (flat_map f xs) n (flat-contained f xs x n (i, omega (arith, inside), is) has)
+
+-- ---- the kind of a cell
+
+kind-in : (cells : List Cell) (n : ℕ) → cell_kind (map (λ (cell : Cell). option_map kind_of cell.form) cells) n ≡ option_map kind_of (form_at cells n)
+kind-in [] zero = refl
+kind-in [] (suc n) = refl
+kind-in (cell ∷ cells) zero = refl
+kind-in (cell ∷ cells) (suc n) = kind-in cells n
+
+-- the number of the cell with an address
+number-in : (cells : List Cell) (address : ℕ) → cell_with (addresses cells) address ≡ number_at cells address
+number-in cells address = position-map (λ a. a == address) (λ (cell : Cell). cell.address) cells
+
+module _ (heap : HeapMap) (lines : List ℕ) (t : TupleMap) (rising : IsStrictlyIncreasing t.cells) (fronts_are : t.fronts ≡ map (front_of heap.cells) t.cells) where
+  abbrev cells : List Cell
+  cells = heap.cells
+
+  abbrev s : SkeletonMap
+  s = skeleton_of heap lines
+
+  front-known : (n : ℕ) → Contains t.cells n → front_at t n ≡ form_front (form_at cells n)
+  front-known n has =
+      ap (λ fronts. option_map_or (λ i. slice_index_or fronts i []) (place_of t.cells n) []) fronts_are
+      ∙ at-place (front_of cells) t.cells n [] rising has
+
+  -- ---- a cell inside a message
+
+  inner-by : (o : Option HeapForm) (front : List Element) → (is_tuple_kind (option_map kind_of o) ≡ true → front ≡ form_front o)
+      → (if is_tuple_kind (option_map kind_of o) then tuple_with (length (places_of cells o)) (tag_texts front) else kind_text (option_map kind_of o)) ≡ form_shape o
+  inner-by None front known = refl
+  inner-by (Some (Tuple es)) front known =
+      tuple-shown (tag_texts es) (tag_texts front) (length (places_of cells (Some (Tuple es))))
+      (length-map es (λ e. cell_in (target cells e)) ∙ sym (tags-count es))
+      (ap tag_texts (known refl) ∙ tags-take es)
+  inner-by (Some form) front known = refl
+
+  abbrev inner_with : Option Kind → List (Option ℕ) → List Element → List ℕ
+  inner_with kind places front = if is_tuple_kind kind then tuple_with (length places) (tag_texts front) else kind_text kind
+
+  inner-is : (n : ℕ) → (is_tuple s n ≡ true → Contains t.cells n) → inner_text s t n ≡ form_shape (form_at cells n)
+  inner-is n has =
+      let o = form_at cells n in
+      let kind_is : cell_kind s.kinds n ≡ option_map kind_of o = kind-in cells n in
+      ap₂ (λ kind places. inner_with kind places (front_at t n)) kind_is (places-of cells n)
+      ∙ inner-by o (front_at t n) (λ tuple. front-known n (has (ap is_tuple_kind kind_is ∙ tuple)))
+
+  -- ---- an element of a message
+
+  abbrev lead : Element → Option ℕ
+  lead e = cell_in (target cells e)
+
+  reference-by : (address : ℕ) (o : Option ℕ) → ((n : ℕ) → Contains (lead_tuple s (cell_in (target_at address o))) n → Contains t.cells n)
+      → option_map_or (inner_text s t) o (codes "missing()") ≡ option_map_or (λ n. form_shape (form_at cells n)) o (codes "missing()")
+  reference-by address None has = refl
+  reference-by address (Some n) has =
+      inner-is n (λ tuple. has n (subst (λ b. Contains (if b then n ∷ [] else []) n) (sym tuple) (head-contained n [])))
+
+  element-is : (e : Element) → ((n : ℕ) → Contains (lead_tuple s (lead e)) n → Contains t.cells n) → element_text s t e ≡ element_shape cells e
+  element-is (Ref address) has =
+      ap (λ o. option_map_or (inner_text s t) o (codes "missing()")) (number-in cells address)
+      ∙ reference-by address (number_at cells address) has
+  element-is e has = refl
+
+  elements-are : (es : List Element) → ((n : ℕ) → Contains (flat_map (lead_tuple s) (map lead es)) n → Contains t.cells n) → map (element_text s t) es ≡ map (element_shape cells) es
+  elements-are [] has = refl
+  elements-are (e ∷ es) has =
+      ap₂ (λ text texts. text ∷ texts)
+      (element-is e (λ n here. has n (Contains-append_left (lead_tuple s (lead e)) (flat_map (lead_tuple s) (map lead es)) n here)))
+      (elements-are es (λ n there. has n (Contains-append_right (lead_tuple s (lead e)) (flat_map (lead_tuple s) (map lead es)) n there)))
+
+  -- ---- a cell to which a message refers
+
+  abbrev needed_with : ℕ → Option Kind → List (Option ℕ) → List ℕ
+  needed_with n kind places = if is_tuple_kind kind then n ∷ flat_map (lead_tuple s) (take 8 places) else []
+
+  abbrev subject_with : Option Kind → List (Option ℕ) → List Element → List ℕ
+  subject_with kind places front = if is_tuple_kind kind then tuple_with (length places) (map (element_text s t) front) else kind_text kind
+
+  subject-by : (n : ℕ) (o : Option HeapForm) (front : List Element) → (is_tuple_kind (option_map kind_of o) ≡ true → front ≡ form_front o)
+      → ((m : ℕ) → Contains (needed_with n (option_map kind_of o) (places_of cells o)) m → Contains t.cells m)
+      → subject_with (option_map kind_of o) (places_of cells o) front ≡ subject_shape cells o
+  subject-by n None front known has = refl
+  subject-by n (Some (Tuple es)) front known has =
+      let leads : List (Option ℕ) = take 8 (map lead es) in
+      tuple-shown (map (element_shape cells) es) (map (element_text s t) front) (length (places_of cells (Some (Tuple es))))
+      (length-map es lead ∙ sym (length-map es (element_shape cells)))
+      (ap (map (element_text s t)) (known refl)
+      ∙ elements-are (take 8 es) (λ m there. has m
+      (Contains-append_right (n ∷ []) (flat_map (lead_tuple s) leads) m
+      (subst (λ l. Contains (flat_map (lead_tuple s) l) m) (sym (take-map lead 8 es)) there)))
+      ∙ sym (take-map (element_shape cells) 8 es))
+  subject-by n (Some form) front known has = refl
+
+  subject-is : (n : ℕ) → ((m : ℕ) → Contains (needed_at s n) m → Contains t.cells m) → subject_text s t n ≡ subject_shape cells (form_at cells n)
+  subject-is n has =
+      let o = form_at cells n in
+      let kind_is : cell_kind s.kinds n ≡ option_map kind_of o = kind-in cells n in
+      let places_are : places_at s.leads n ≡ places_of cells o = places-of cells n in
+      ap₂ (λ kind places. subject_with kind places (front_at t n)) kind_is places_are
+      ∙ subject-by n o (front_at t n)
+      (λ tuple. front-known n (has n (subst (λ b. Contains (if b then n ∷ flat_map (lead_tuple s) (take 8 (places_at s.leads n)) else []) n) (sym (ap is_tuple_kind kind_is ∙ tuple)) (head-contained n _))))
+      (λ m there. has m (subst (λ l. Contains l m) (sym (ap₂ (needed_with n) kind_is places_are)) there))
+
+-- ---- all of several cells
+
+-- images are the same if they are for each of a list
+same-images : (f g : ℕ → List ℕ) (xs : List ℕ) → ((n : ℕ) → Contains xs n → f n ≡ g n) → map f xs ≡ map g xs
+same-images f g [] same = refl
+same-images f g (x ∷ xs) same =
+    ap₂ (λ a b. a ∷ b) (same x (head-contained x xs)) (same-images f g xs (λ n has. same n (Contains-append_right (x ∷ []) xs n has)))
+
+-- the shapes inside messages, from what was kept of the heap
+pub inner-shown : (dump : List ℕ) (index : Contents) (pid : List ℕ) (s : SkeletonMap) (t : TupleMap) (numbers : List ℕ) (texts : List (List ℕ))
+    → s ≡ skeleton_for dump index pid → IsStrictlyIncreasing numbers → t.cells ≡ numbers → t.fronts ≡ fronts_for dump index pid numbers → texts ≡ map (inner_text s t) t.cells
+    → texts ≡ inner_shapes dump index pid numbers
+inner-shown dump index pid s t numbers texts s_is rising numbers_are fronts_are texts_are =
+    let sections = sections_in index in
+    let heap = heap_in dump index (heap_section pid sections) (literals_section sections) in
+    let lines = lines_in dump (heap_section pid sections) (literals_section sections) in
+    texts_are
+    ∙ ap₂ (λ (k : SkeletonMap) cells. map (inner_text k t) cells) s_is numbers_are
+    ∙ same-images (inner_text (skeleton_of heap lines) t) (inner_shape heap.cells) numbers
+    (λ n has. inner-is heap lines t (subst IsStrictlyIncreasing (sym numbers_are) rising) (fronts_are ∙ ap (map (front_of heap.cells)) (sym numbers_are)) n
+    (λ tuple. subst (λ l. Contains l n) (sym numbers_are) has))
+
+-- the shapes of messages that refer to cells, from what was kept of the heap
+pub subjects-shown : (dump : List ℕ) (index : Contents) (pid : List ℕ) (s : SkeletonMap) (t : TupleMap) (subjects numbers : List ℕ) (texts : List (List ℕ))
+    → s ≡ skeleton_for dump index pid → IsStrictlyIncreasing numbers → ((m : ℕ) → Contains (needed s subjects) m → Contains numbers m)
+    → t.cells ≡ numbers → t.fronts ≡ fronts_for dump index pid numbers → texts ≡ map (subject_text s t) subjects
+    → texts ≡ cell_shapes dump index pid subjects
+subjects-shown dump index pid s t subjects numbers texts s_is rising has numbers_are fronts_are texts_are =
+    let sections = sections_in index in
+    let heap = heap_in dump index (heap_section pid sections) (literals_section sections) in
+    let lines = lines_in dump (heap_section pid sections) (literals_section sections) in
+    let whole : SkeletonMap = skeleton_of heap lines in
+    let there : (m : ℕ) → Contains (needed whole subjects) m → Contains t.cells m =
+    λ m inside. subst (λ l. Contains l m) (sym numbers_are) (has m (subst (λ k. Contains (needed k subjects) m) (sym s_is) inside)) in
+    texts_are
+    ∙ ap (λ (k : SkeletonMap). map (subject_text k t) subjects) s_is
+    ∙ same-images (subject_text whole t) (cell_shape heap.cells) subjects
+    (λ n one. subject-is heap lines t (subst IsStrictlyIncreasing (sym numbers_are) rising) (fronts_are ∙ ap (map (front_of heap.cells)) (sym numbers_are)) n
+    (λ m inside. there m (flat-contained (needed_at whole) subjects n m one inside)))

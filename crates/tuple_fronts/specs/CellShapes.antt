@@ -1,0 +1,13 @@
+-- The shapes of cells of the heap of a process.
+use Rattle.std.specs.Prelude.{ℕ, List, map}
+use Rattle.dump_sections.specs.Index.{Contents}
+use Rattle.tuple_fronts.specs.Fronts.{cells_for}
+use Rattle.tuple_fronts.specs.Shapes.{cell_shape, inner_shape}
+
+-- the shapes that these cells of the heap of the process with this pid have inside messages
+abbrev pub inner_shapes : List ℕ → Contents → List ℕ → List ℕ → List (List ℕ)
+inner_shapes dump index pid numbers = map (inner_shape (cells_for dump index pid)) numbers
+
+-- the shapes of messages that refer to these cells of the heap of the process with this pid
+abbrev pub cell_shapes : List ℕ → Contents → List ℕ → List ℕ → List (List ℕ)
+cell_shapes dump index pid numbers = map (cell_shape (cells_for dump index pid)) numbers

@@ -1,0 +1,230 @@
+// The shapes of cells.
+ghost use Rattle.std.specs.Prelude.{◌≡◌, ◌<◌, ◌++◌, All, length, map, IfOk, OnOk};
+ghost use Rattle.term_forms.specs.Seen.{element};
+ghost use Rattle.tuple_fronts.specs.Shapes.{comma_list, tag_texts};
+ghost use Rattle.tuple_fronts.specs.Inner.CellTexts.{element_text, element_texts, inner_text, size_of, subject_text, tag_at, tuple_with, AreInner};
+ghost use Rattle.tuple_fronts.specs.Inner.Tuples.{front_at};
+
+use crate::cell_set::CellSet;
+use crate::texts::Texts;
+use crate::tuples::Tuples;
+use crate::words::{kind_word, push_comma, push_end, push_plain, push_tag};
+use cell_graphs::CellGraph;
+use cell_parts::Kinded;
+use heap_skeleton::Skeleton;
+use std::alloc::{AllocError, Global};
+use term_forms::shapes::Elem;
+
+// Appends the text of the element at a place of a tuple inside a message.
+fn push_tag_at(
+    alloc: Global,
+    text: &mut Vec<u8>,
+    place: usize,
+    e: &Elem<'_>,
+) -> Result<(), AllocError>
+    ensures { OnOk result (text.new.items ≡ text.old.items ++ tag_at place (element e.now)) }
+{
+    if place == 0 {
+        push_tag(alloc, text, e)
+    } else {
+        text.extend_from_slice(b"_")
+    }
+}
+
+// Appends the elements of a tuple inside a message.
+fn push_tags(
+    alloc: Global,
+    text: &mut Vec<u8>,
+    tuples: &Tuples,
+    cell: u32,
+) -> Result<(), AllocError>
+    ensures { OnOk result (text.new.items ≡ text.old.items ++ comma_list (tag_texts (front_at tuples.now cell))) }
+{
+    for place in 0..tuples.count(cell) {
+        push_comma(text, place)?;
+        push_tag_at(alloc, text, place, &tuples.element(cell, place))?;
+    }
+    Ok(())
+}
+
+// Appends a tuple inside a message.
+fn push_inner_tuple(
+    alloc: Global,
+    text: &mut Vec<u8>,
+    skeleton: &Skeleton,
+    tuples: &Tuples,
+    cell: u32,
+) -> Result<(), AllocError>
+    requires { cell < length skeleton.now.leads }
+    ensures { OnOk result (text.new.items ≡ text.old.items
+        ++ tuple_with (size_of skeleton.now cell) (tag_texts (front_at tuples.now cell))) }
+{
+    text.push(b'{')?;
+    push_tags(alloc, text, tuples, cell)?;
+    push_end(text, tuples.count(cell), skeleton.places(cell))
+}
+
+// Makes the shape of a cell inside a message.
+fn push_new_inner(
+    alloc: Global,
+    text: &mut Vec<u8>,
+    skeleton: &Skeleton,
+    tuples: &Tuples,
+    cell: u32,
+) -> Result<(), AllocError>
+    requires { cell < length skeleton.now.leads }
+    ensures { OnOk result (text.new.items ≡ text.old.items ++ inner_text skeleton.now tuples.now cell) }
+{
+    if skeleton.is_tuple(cell) {
+        push_inner_tuple(alloc, text, skeleton, tuples, cell)
+    } else {
+        text.extend_from_slice(kind_word(Kinded::kind(skeleton, cell)))
+    }
+}
+
+/// The shapes that tuples have inside messages. Each is made once, however many messages show it.
+pub(crate) fn inner_texts(
+    alloc: Global,
+    skeleton: &Skeleton,
+    tuples: &Tuples,
+) -> Result<Texts, AllocError>
+    requires { All (λ n. n < length skeleton.now.leads) tuples.now.cells }
+    ensures { IfOk result (AreInner skeleton.now tuples.now) }
+{
+    let mut texts = Texts::new(alloc);
+    let mut text = Vec::new(alloc);
+    for cell in tuples.cells() {
+        text.clear();
+        push_new_inner(alloc, &mut text, skeleton, tuples, *cell)?;
+        texts.push(&text)?;
+    }
+    Ok(texts)
+}
+
+// Appends the shape of a cell inside a message, given those of tuples.
+fn push_inner(
+    alloc: Global,
+    text: &mut Vec<u8>,
+    skeleton: &Skeleton,
+    tuples: &Tuples,
+    inner: &Texts,
+    cell: u32,
+) -> Result<(), AllocError>
+    requires cell { cell < length skeleton.now.leads }
+    requires inner { AreInner skeleton.now tuples.now inner.now }
+    ensures { OnOk result (text.new.items ≡ text.old.items ++ inner_text skeleton.now tuples.now cell) }
+{
+    match tuples.place(cell) {
+        Some(place) => text.extend_from_slice(inner.get(place)),
+        None => push_new_inner(alloc, text, skeleton, tuples, cell),
+    }
+}
+
+// Appends the shape of an element of a message.
+fn push_element(
+    alloc: Global,
+    text: &mut Vec<u8>,
+    skeleton: &Skeleton,
+    tuples: &Tuples,
+    inner: &Texts,
+    e: &Elem<'_>,
+) -> Result<(), AllocError>
+    requires { AreInner skeleton.now tuples.now inner.now }
+    ensures { OnOk result (text.new.items ≡ text.old.items
+        ++ element_text skeleton.now tuples.now (element e.now)) }
+{
+    if let Elem::Ref(address) = e {
+        if let Some(cell) = skeleton.find(*address) {
+            return push_inner(alloc, text, skeleton, tuples, inner, cell);
+        }
+    }
+    push_plain(alloc, text, e)
+}
+
+// Appends the shapes of the first elements of a cell.
+fn push_elements(
+    alloc: Global,
+    text: &mut Vec<u8>,
+    skeleton: &Skeleton,
+    tuples: &Tuples,
+    inner: &Texts,
+    cell: u32,
+) -> Result<(), AllocError>
+    requires { AreInner skeleton.now tuples.now inner.now }
+    ensures { OnOk result (text.new.items ≡ text.old.items
+        ++ comma_list (element_texts skeleton.now tuples.now cell)) }
+{
+    for place in 0..tuples.count(cell) {
+        push_comma(text, place)?;
+        push_element(
+            alloc,
+            text,
+            skeleton,
+            tuples,
+            inner,
+            &tuples.element(cell, place),
+        )?;
+    }
+    Ok(())
+}
+
+// Appends a tuple to which a message refers.
+fn push_subject_tuple(
+    alloc: Global,
+    text: &mut Vec<u8>,
+    skeleton: &Skeleton,
+    tuples: &Tuples,
+    inner: &Texts,
+    cell: u32,
+) -> Result<(), AllocError>
+    requires cell { cell < length skeleton.now.leads }
+    requires inner { AreInner skeleton.now tuples.now inner.now }
+    ensures { OnOk result (text.new.items ≡ text.old.items
+        ++ tuple_with (size_of skeleton.now cell) (element_texts skeleton.now tuples.now cell)) }
+{
+    text.push(b'{')?;
+    push_elements(alloc, text, skeleton, tuples, inner, cell)?;
+    push_end(text, tuples.count(cell), skeleton.places(cell))
+}
+
+// Appends the shape of a cell to which a message refers.
+fn push_subject(
+    alloc: Global,
+    text: &mut Vec<u8>,
+    skeleton: &Skeleton,
+    tuples: &Tuples,
+    inner: &Texts,
+    cell: u32,
+) -> Result<(), AllocError>
+    requires cell { cell < length skeleton.now.leads }
+    requires inner { AreInner skeleton.now tuples.now inner.now }
+    ensures { OnOk result (text.new.items ≡ text.old.items ++ subject_text skeleton.now tuples.now cell) }
+{
+    if skeleton.is_tuple(cell) {
+        push_subject_tuple(alloc, text, skeleton, tuples, inner, cell)
+    } else {
+        text.extend_from_slice(kind_word(Kinded::kind(skeleton, cell)))
+    }
+}
+
+/// The shapes of cells to which messages refer.
+pub(crate) fn subject_texts(
+    alloc: Global,
+    skeleton: &Skeleton,
+    tuples: &Tuples,
+    inner: &Texts,
+    cells: &CellSet,
+) -> Result<Texts, AllocError>
+    requires cells { All (λ n. n < length skeleton.now.leads) cells.now }
+    requires inner { AreInner skeleton.now tuples.now inner.now }
+    ensures { IfOk result (λ texts. texts ≡ map (subject_text skeleton.now tuples.now) cells.now) }
+{
+    let mut texts = Texts::new(alloc);
+    let mut text = Vec::new(alloc);
+    for cell in cells.numbers() {
+        text.clear();
+        push_subject(alloc, &mut text, skeleton, tuples, inner, *cell)?;
+        texts.push(&text)?;
+    }
+    Ok(texts)
+}

@@ -1,0 +1,104 @@
+// The tuples whose first elements are known.
+ghost use Rattle.std.specs.Prelude.{◌≡◌, ◌<◌, All, length, slice_get, Some, IfErr, IfOk, IfSome};
+ghost use Rattle.std.specs.List.Sorted.{IsStrictlyIncreasing};
+ghost use Rattle.dump_io.specs.Dumps.{IfTold, ReadsAtMost};
+ghost use Rattle.dump_io.specs.Faults.{IsReadCauseOf};
+ghost use Rattle.dump_sections.specs.Index.{IsBuiltOver, sections_in};
+ghost use Rattle.dump_sections.specs.Loading.{bodies_length};
+ghost use Rattle.heap_cells.specs.Loading.{heap_bodies};
+ghost use Rattle.heap_skeleton.specs.Skeletons.{skeleton_for};
+ghost use Rattle.term_forms.specs.Seen.{element};
+ghost use Rattle.tuple_fronts.specs.Fronts.{fronts_for};
+ghost use Rattle.tuple_fronts.specs.CellSets.{place_of};
+ghost use Rattle.tuple_fronts.specs.Inner.Tuples.{front_at};
+
+use crate::cell_set::CellSet;
+use crate::fronts::TupleFronts;
+use dump_io::{Dumps, ReadFault};
+use dump_sections::Index;
+use heap_skeleton::Skeleton;
+use std::alloc::Global;
+use std::marker::Model;
+use term_forms::shapes::Elem;
+
+/// Tuples, and the first elements of each. Contracts see both.
+#[derive(Drop)]
+pub(crate) struct Tuples {
+    cells: CellSet,
+    fronts: TupleFronts,
+}
+
+impl Model for Tuples {
+    ghost use Rattle.std.specs.Prelude.{◌≡◌, length};
+    ghost use Rattle.tuple_fronts.specs.Inner.Tuples.{TupleMap};
+
+    ghost Value = { TupleMap };
+
+    ghost view = { λ t. record { cells = t.cells; fronts = t.fronts } };
+
+    ghost invariant = { λ t. length t.fronts ≡ length t.cells };
+}
+
+impl Tuples {
+    /// Reads the heap of a process and the literals once more, and keeps the first elements of these cells.
+    pub(crate) fn load<D: Dumps>(
+        alloc: Global,
+        dumps: &mut D,
+        index: &Index,
+        pid: &[u8],
+        skeleton: &Skeleton,
+        cells: CellSet,
+    ) -> Result<Tuples, ReadFault>
+        requires over { IsBuiltOver (D.state dumps.old).now index.now }
+        requires cells { All (λ n. n < length skeleton.now.leads) cells }
+        requires skeleton { IfTold (D.state dumps.old).now
+            (λ dump. skeleton.now ≡ skeleton_for dump index.now pid.now) }
+        ensures reads { ReadsAtMost (D.state dumps.old) (D.state dumps.new)
+            (bodies_length (heap_bodies pid.now (sections_in index.now))) }
+        ensures fault { IfErr result (IsReadCauseOf (D.state dumps.old) (D.state dumps.new)) }
+        ensures cells { IfOk result (λ tuples. tuples.cells ≡ cells) }
+        ensures ascending { IfOk result (λ tuples. IsStrictlyIncreasing tuples.cells) }
+        ensures fronts { IfOk result (λ tuples. IfTold (D.state dumps.old).now
+            (λ dump. tuples.fronts ≡ fronts_for dump index.now pid.now cells)) }
+    {
+        skeleton.leads_are_cells();
+        let fronts = TupleFronts::load(alloc, dumps, index, pid, skeleton, cells.numbers())?;
+        Ok(Tuples { cells, fronts })
+    }
+
+    /// The cells whose first elements are known.
+    pub(crate) fn cells(&self) -> &[u32]
+        ensures { result.now ≡ self.now.cells }
+    {
+        self.cells.numbers()
+    }
+
+    /// The place of a cell among them, if it is one of them.
+    pub(crate) fn place(&self, cell: u32) -> Option<usize>
+        ensures value { result ≡ place_of self.now.cells cell }
+        ensures within { IfSome result (λ i. i < length self.now.cells) }
+    {
+        self.cells.place(cell)
+    }
+
+    /// How many first elements of a cell are known.
+    pub(crate) fn count(&self, cell: u32) -> usize
+        ensures { result ≡ length (front_at self.now cell) }
+    {
+        match self.cells.place(cell) {
+            Some(i) => self.fronts.count(i),
+            None => 0,
+        }
+    }
+
+    /// The element at a place of a cell.
+    pub(crate) fn element(&self, cell: u32, place: usize) -> Elem<'_>
+        requires { place < length (front_at self.now cell) }
+        ensures { slice_get (front_at self.now cell) place ≡ Some (element result) }
+    {
+        match self.cells.place(cell) {
+            Some(i) => self.fronts.element(i, place),
+            None => unreachable!(),
+        }
+    }
+}
