@@ -199,11 +199,12 @@ module _ (pid : List ℕ) (before : List Section → List Section) (addr : Optio
 -- the part is all that is read
 pub ReadsFor-peeked : (pid : List ℕ) (addr : Option ℕ) (text : List ℕ → Walk → List ℕ) (limits : Numbers) (index : Contents) (old new : DeviceState) (terms : List Element) (nodes : ℕ)
     (seen : HeapPart → List ℕ) (result : Result HeapPart Stop) → no_process pid (sections_in index) ≡ None → ReadsAtMost old old 0 → GivesPart pid addr terms nodes limits index old new result
-    → ((part : HeapPart) (bytes : List ℕ) → ((e : Element) → Contains terms e → (marked : Bool) → answer_over (walk_in part) nodes marked e ≡ answer_over (walk_of pid bytes) nodes marked e)
+    → ((part : HeapPart) (bytes : List ℕ) → IsIndexed bytes limits index old.now
+    → ((e : Element) → Contains terms e → (marked : Bool) → answer_over (walk_in part) nodes marked e ≡ answer_over (walk_of pid bytes) nodes marked e)
     → seen part ≡ text bytes (walk_of pid bytes))
     → ReadsFor (peeked pid no_body addr text) limits index old new seen result
 ReadsFor-peeked pid addr text limits index old new terms nodes seen (Ok part) there none gives shows =
-    HasRead-behind pid no_body addr text limits index old old there 0 none (omega arith) terms nodes new part (seen part) gives (λ bytes all. shows part bytes)
+    HasRead-behind pid no_body addr text limits index old old there 0 none (omega arith) terms nodes new part (seen part) gives (shows part)
 ReadsFor-peeked pid addr text limits index old new terms nodes seen (Err stop) there none gives shows =
     IsHalted-behind pid no_body addr text limits index old old there 0 none (omega arith) terms nodes new stop gives
 

@@ -2,11 +2,12 @@
 use Rattle.dump_questions.specs.Meaning.{of_bodies, part_in, Meaning, Part}
 use Rattle.dump_questions.specs.Heaps.{heap_question, no_address, of_part, on_heap, walk_question, HeapQuestion}
 use Rattle.heap_commands.specs.Terms.{bad_binary, binary_bytes, binary_cause, external_at, no_external, root_terms}
-use Rattle.std.specs.Prelude.{[], unwrap_or, Bool, List, ℕ}
+use Rattle.std.specs.Prelude.{◌++◌, ◌∷◌, [], unwrap_or, Bool, List, ℕ}
 use Rattle.std.specs.Option.{option_to_list}
 use Rattle.root_views.specs.Kinds.{roots_in}
 use Rattle.root_views.specs.Sections.{root_bodies, root_section}
 use Rattle.term_forms.specs.Elements.{Element}
+use Rattle.dump_sections.specs.Index.{index_of}
 use Rattle.dump_sections.specs.Sections.{Section}
 use Rattle.heap_cells.specs.DumpHeaps.{heap_map}
 use Rattle.heap_cells.specs.HeapMap.{HeapMap}
@@ -15,6 +16,7 @@ use Rattle.term_unfold.specs.DumpWalks.{walk_of}
 use Rattle.term_unfold.specs.Walks.{Walk}
 use Rattle.heap_reach.specs.Rounds.{reached_by}
 use Rattle.term_text.specs.Cells.{cells_report}
+use Rattle.term_text.specs.Cuts.{cut_report}
 use Rattle.term_text.specs.Reach.{reach_report}
 use Rattle.term_text.specs.Roots.{answer_over, binary_report, ext_report, roots_report, some_roots_report, term_report}
 use Rattle.root_views.specs.declared.kinds.RootKind.{RootKind}
@@ -57,13 +59,22 @@ term_question pid addr nodes marked = record (walk_question pid) {
 abbrev pub term_row : List ℕ → ℕ → ℕ → Bool → Meaning
 term_row pid addr nodes marked = on_heap (term_question pid addr nodes marked)
 
+-- a question that shows terms of a heap of any size: its report ends with what a truncated
+-- dump may lack of the roots of these kinds, of the heap and of the literals
+abbrev pub part_with_cuts : List RootKind → HeapQuestion → Meaning
+part_with_cuts kinds q = of_part (record q {
+  What = List ℕ;
+  what = λ bytes. q.show (q.what bytes) ++ cut_report (index_of bytes) q.pid kinds;
+  show = λ text. text;
+})
+
 -- the term at this address, whatever the size of the heap
 abbrev pub peek_term_row : List ℕ → ℕ → ℕ → Bool → Meaning
-peek_term_row pid addr nodes marked = of_part (term_question pid addr nodes marked)
+peek_term_row pid addr nodes marked = part_with_cuts [] (term_question pid addr nodes marked)
 
 -- of the roots of this process those from this place on, at most this many, whatever the sizes of the bodies
 abbrev pub peek_roots_row : RootKind → List ℕ → ℕ → ℕ → ℕ → Bool → Meaning
-peek_roots_row kind pid first count nodes marked = of_part (record (walk_question pid) {
+peek_roots_row kind pid first count nodes marked = part_with_cuts (kind ∷ []) (record (walk_question pid) {
   also = root_body kind pid;
   What = Rooted;
   what = rooted_in kind pid;

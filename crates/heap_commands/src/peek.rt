@@ -1,5 +1,5 @@
 // `peek`: terms of a heap of any size.
-ghost use Rattle.std.specs.Prelude.{◌≡◌, ◌-◌, ◌<◌, ◌≤◌, ◌++◌, map, None, All, IfErr, IfOk, OnOk};
+ghost use Rattle.std.specs.Prelude.{◌≡◌, ◌-◌, ◌<◌, ◌≤◌, [], ◌∷◌, ◌++◌, map, None, All, IfErr, IfOk, OnOk};
 ghost use Rattle.binary_refs.specs.Previews.{AreFor};
 ghost use Rattle.dump_io.specs.Dumps.{ReadsAtMost};
 ghost use Rattle.dump_io.specs.Faults.{IsReadCauseOf};
@@ -10,6 +10,7 @@ ghost use Rattle.root_views.specs.Seen.{content};
 ghost use Rattle.root_views.specs.Shown.{IsPlaced};
 ghost use Rattle.term_forms.specs.Seen.{element};
 ghost use Rattle.root_views.specs.Roots.{term_in};
+ghost use Rattle.term_text.specs.Cuts.{cut_report};
 ghost use Rattle.term_text.specs.Reach.{root_elements};
 ghost use Rattle.term_text.specs.Roots.{answer_over, shown_report, term_report};
 ghost use Rattle.heap_commands.specs.Inner.Loads.{unknown_cause, walk_in, AreAnswered, AreRootsFound, GivesPart, ReadsPart};
@@ -29,7 +30,7 @@ use report_text::Refusal;
 use root_views::{Root, RootKind, ShownRoots, What};
 use std::alloc::{AllocError, Global};
 use term_forms::shapes::Elem;
-use term_text::{put_shown_roots, put_term};
+use term_text::{put_cuts, put_shown_roots, put_term};
 use term_unfold::{Addresses, Walker};
 
 /// `peek` with an address.
@@ -131,7 +132,8 @@ impl Report for PeekTerm<'_> {
 
     ghost means = { λ c. peek_term_row c.pid.now c.addr c.nodes c.marked };
 
-    ghost seen = { λ c _ part. term_report (answer_over (walk_in part) c.nodes c.marked) c.addr };
+    ghost seen = { λ c index part. term_report (answer_over (walk_in part) c.nodes c.marked) c.addr
+        ++ cut_report index c.pid.now [] };
 
     ghost asked = { λ c. 0 < c.nodes };
 
@@ -146,6 +148,7 @@ impl Report for PeekTerm<'_> {
     fn put<K: Sink>(&self, at: &Opened<'_>, part: &HeapPart, out: &mut K) -> Result<u8, Stop> {
         let mut walker = Walker::new(at.alloc, &part.heap, &part.previews)?;
         put_term(out, &mut walker, self.addr, self.nodes, self.marked)?;
+        put_cuts(out, at.index, self.pid, &[])?;
         Ok(DONE)
     }
 }
@@ -223,8 +226,8 @@ impl Report for PeekRoots<'_> {
 
     ghost means = { λ c. peek_roots_row c.kind c.pid.now c.first c.count c.nodes c.marked };
 
-    ghost seen = { λ c _ loaded. shown_report (answer_over (walk_in loaded.part) c.nodes c.marked)
-        loaded.base loaded.roots.shown loaded.roots.count };
+    ghost seen = { λ c index loaded. shown_report (answer_over (walk_in loaded.part) c.nodes c.marked)
+        loaded.base loaded.roots.shown loaded.roots.count ++ cut_report index c.pid.now (c.kind ∷ []) };
 
     ghost asked = { λ c. (0 < c.nodes) × (1 ≤ c.count) × (c.count ≤ 1000) };
 
@@ -244,6 +247,7 @@ impl Report for PeekRoots<'_> {
         let mut walker = Walker::new(at.alloc, heap, previews)?;
         let RootsPart { roots, base, .. } = loaded;
         put_shown_roots(out, &mut walker, roots, *base, self.nodes, self.marked)?;
+        put_cuts(out, at.index, self.pid, &[self.kind])?;
         Ok(DONE)
     }
 }

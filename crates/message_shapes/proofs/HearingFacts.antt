@@ -13,7 +13,7 @@ use Rattle.message_shapes.specs.declared.mail_sink.MailSink.{MailSink}
 
 -- no root was heard
 Tells-none : (sink : MailSink) → Tells sink sink []
-Tells-none sink = record { skeleton = refl; heard = sym (append-nil sink.heard) }
+Tells-none sink = record { skeleton = refl; pids = refl; heard = sym (append-nil sink.heard) }
 
 -- what a sink heard of the body of a section
 pub section-tells : (old new : MailSink) (now : Now) (from upto : ℕ) (found : Option Section) → from ≡ body_start found → ((dump : List ℕ) → between from upto dump ≡ body_in dump found)
@@ -21,5 +21,5 @@ pub section-tells : (old new : MailSink) (now : Now) (from upto : ℕ) (found : 
 section-tells old new now from upto found start body hears =
     let tells = hears.heard.later old [] (Tells-none old) in record {
       skeleton = tells.skeleton;
-      heard = λ dump is. tells.heard ∙ ap (λ roots. old.heard ++ roots_told old.skeleton.now.addresses roots) (hears.are dump is ∙ ap₂ (placed_roots Mail) start (body dump));
+      heard = λ dump is. tells.heard ∙ ap (λ roots. old.heard ++ roots_told old.pids old.skeleton.now.addresses roots) (hears.are dump is ∙ ap₂ (placed_roots Mail) start (body dump));
     }

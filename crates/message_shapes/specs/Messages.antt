@@ -1,5 +1,5 @@
--- The messages of a mailbox, and their shapes. Offsets are of the file.
-use Rattle.std.specs.Prelude.{ℕ, List, [], map, filter, slice_index_or, Option}
+-- The messages of a mailbox, and their shapes, in which pids are shown or not. Offsets are of the file.
+use Rattle.std.specs.Prelude.{ℕ, Bool, List, [], map, filter, slice_index_or, Option}
 use Rattle.dump_sections.specs.Bodies.{body_in, body_start}
 use Rattle.dump_sections.specs.Index.{Contents, sections_in}
 use Rattle.dump_sections.specs.Sections.{Section}
@@ -25,12 +25,12 @@ abbrev pub message_at : List Message → ℕ → Message
 message_at messages i = slice_index_or messages i (record { at = 0; shape = [] })
 
 -- the message of a root that is one
-abbrev pub message_of : List Cell → BodyRoot → Message
-message_of cells root = record { at = root.at; shape = message_shape cells root.content }
+abbrev pub message_of : Bool → List Cell → BodyRoot → Message
+message_of pids cells root = record { at = root.at; shape = message_shape pids cells root.content }
 
 -- the messages of the roots of a mailbox; tokens are none
-abbrev pub messages_of : List Cell → List BodyRoot → List Message
-messages_of cells roots = map (message_of cells) (filter is_message roots)
+abbrev pub messages_of : Bool → List Cell → List BodyRoot → List Message
+messages_of pids cells roots = map (message_of pids cells) (filter is_message roots)
 
 -- ---- which messages have the same shape
 
@@ -62,5 +62,5 @@ abbrev pub mail_roots : List ℕ → Contents → List ℕ → List BodyRoot
 mail_roots dump index pid = roots_in_mail dump (root_section Mail pid (sections_in index))
 
 -- the messages of a process's mailbox, with their groups
-abbrev pub mail_shapes : List ℕ → Contents → List ℕ → ShapeMap
-mail_shapes dump index pid = grouped_by_shape (messages_of (cells_for dump index pid) (mail_roots dump index pid))
+abbrev pub mail_shapes : Bool → List ℕ → Contents → List ℕ → ShapeMap
+mail_shapes pids dump index pid = grouped_by_shape (messages_of pids (cells_for dump index pid) (mail_roots dump index pid))

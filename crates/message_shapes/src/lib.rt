@@ -9,7 +9,7 @@
 //! (`tuple_fronts`), for which the heap is read once more.
 //!
 //! ```text
-//! let shapes = MailShapes::load(alloc, &mut dumps, &index, b"<0.1.0>")?;
+//! let shapes = MailShapes::load(alloc, &mut dumps, &index, b"<0.1.0>", false)?;
 //! for group in shapes.groups() {
 //!     let shape = shapes.shape(group.first); // group.count messages have this shape
 //!     let at = shapes.at(group.first); // where the first of them stands

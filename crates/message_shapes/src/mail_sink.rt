@@ -12,7 +12,7 @@ ghost use Rattle.root_views.specs.declared.kinds.RootKind.TheVariants.{Mail};
 ghost use Rattle.message_shapes.specs.Messages.{mail_roots};
 ghost use Rattle.message_shapes.specs.Inner.Hearing.{IsReady, Tells, TellsSection};
 ghost use Rattle.message_shapes.specs.Inner.Telling.{content_origin, element_origin, roots_told, AreCells, OfText};
-ghost use Rattle.tuple_fronts.specs.Shapes.{plain_shape};
+ghost use Rattle.tuple_fronts.specs.Shapes.{plain_with};
 
 use crate::heard::Heard;
 use dump_io::{Dumps, ReadFault};
@@ -21,13 +21,14 @@ use heap_skeleton::Skeleton;
 use root_views::{EachRoot, Root, RootKind, What, hear_roots};
 use std::alloc::{AllocError, Global};
 use term_forms::shapes::Elem;
-use tuple_fronts::push_plain;
+use tuple_fronts::push_plain_with;
 
-// Keeps the messages that it hears.
+// Keeps the messages that it hears, with pids shown or not.
 #[derive(Drop)]
 struct MailSink<'a> {
     alloc: Global,
     skeleton: &'a Skeleton,
+    pids: bool,
     heard: Heard,
 }
 
@@ -39,12 +40,18 @@ fn is_message(label: &[u8]) -> bool
 }
 
 // Keeps a message of which the element leads to no cell.
-fn hear_plain(alloc: Global, heard: &mut Heard, at: u64, e: &Elem<'_>) -> Result<(), AllocError>
+fn hear_plain(
+    alloc: Global,
+    heard: &mut Heard,
+    at: u64,
+    e: &Elem<'_>,
+    pids: bool,
+) -> Result<(), AllocError>
     ensures { OnOk result (heard.new ≡ heard.old
-        ++ record { at = at; source = OfText (plain_shape (element e.now)) } ∷ []) }
+        ++ record { at = at; source = OfText (plain_with pids (element e.now)) } ∷ []) }
 {
     let mut text = Vec::new(alloc);
-    push_plain(alloc, &mut text, e)?;
+    push_plain_with(alloc, &mut text, e, pids)?;
     heard.push_text(at, &text)
 }
 
@@ -55,18 +62,19 @@ fn hear_term(
     skeleton: &Skeleton,
     at: u64,
     e: &Elem<'_>,
+    pids: bool,
 ) -> Result<(), AllocError>
     requires { AreCells (length skeleton.now.leads) heard.old }
     ensures cells { OnOk result (AreCells (length skeleton.now.leads) heard.new) }
     ensures heard { OnOk result (heard.new ≡ heard.old
-        ++ record { at = at; source = element_origin skeleton.now.addresses (element e.now) } ∷ []) }
+        ++ record { at = at; source = element_origin pids skeleton.now.addresses (element e.now) } ∷ []) }
 {
     if let Elem::Ref(address) = e {
         if let Some(cell) = skeleton.find(*address) {
             return heard.push_cell(at, cell);
         }
     }
-    hear_plain(alloc, heard, at, e)
+    hear_plain(alloc, heard, at, e, pids)
 }
 
 // Keeps a message.
@@ -76,14 +84,15 @@ fn hear_message(
     skeleton: &Skeleton,
     at: u64,
     what: &What<'_>,
+    pids: bool,
 ) -> Result<(), AllocError>
     requires { AreCells (length skeleton.now.leads) heard.old }
     ensures cells { OnOk result (AreCells (length skeleton.now.leads) heard.new) }
     ensures heard { OnOk result (heard.new ≡ heard.old
-        ++ record { at = at; source = content_origin skeleton.now.addresses (content what.now) } ∷ []) }
+        ++ record { at = at; source = content_origin pids skeleton.now.addresses (content what.now) } ∷ []) }
 {
     match what {
-        What::Term(e) => hear_term(alloc, heard, skeleton, at, e),
+        What::Term(e) => hear_term(alloc, heard, skeleton, at, e, pids),
         What::Dist(_) => heard.push_text(at, b"distribution()"),
         What::Info(_) | What::Unread => heard.push_text(at, b"?"),
     }
@@ -102,6 +111,7 @@ impl EachRoot for MailSink<'_> {
                 self.skeleton,
                 found.at as u64,
                 &found.what,
+                self.pids,
             )?;
         }
         Ok(())
@@ -138,6 +148,7 @@ pub(crate) fn hear_mail<D: Dumps>(
     index: &Index,
     pid: &[u8],
     skeleton: &Skeleton,
+    pids: bool,
 ) -> Result<Heard, ReadFault>
     requires { IsBuiltOver (D.state dumps.old).now index.now }
     ensures reads { ReadsAtMost (D.state dumps.old) (D.state dumps.new)
@@ -145,12 +156,13 @@ pub(crate) fn hear_mail<D: Dumps>(
     ensures fault { IfErr result (IsReadCauseOf (D.state dumps.old) (D.state dumps.new)) }
     ensures cells { IfOk result (AreCells (length skeleton.now.leads)) }
     ensures heard { IfOk result (λ heard. IfTold (D.state dumps.old).now (λ dump.
-        heard ≡ roots_told skeleton.now.addresses (mail_roots dump index.now pid.now))) }
+        heard ≡ roots_told pids skeleton.now.addresses (mail_roots dump index.now pid.now))) }
 {
     let mut buffer = Vec::new(alloc);
     let mut sink = MailSink {
         alloc,
         skeleton,
+        pids,
         heard: Heard::new(alloc),
     };
     let place = index.first(RootKind::Mail.tag(), Some(pid));

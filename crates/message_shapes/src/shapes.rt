@@ -23,7 +23,7 @@ use heap_skeleton::Skeleton;
 use std::alloc::{AllocError, Global};
 use std::marker::Model;
 use text_groups::{TextGroup, sort_most_first};
-use tuple_fronts::cell_shapes;
+use tuple_fronts::cell_shapes_with;
 
 /// The messages of a mailbox with their shapes, and the groups of those that have the same. Contracts see both.
 #[derive(Drop)]
@@ -52,21 +52,22 @@ fn shape_messages<D: Dumps>(
     pid: &[u8],
     skeleton: &Skeleton,
     heard: Heard,
+    pids: bool,
 ) -> Result<Messages, ReadFault>
     requires over { IsBuiltOver (D.state dumps.old).now index.now }
     requires cells { AreCells (length skeleton.now.leads) heard }
     requires skeleton { IfTold (D.state dumps.old).now
         (λ dump. skeleton.now ≡ skeleton_for dump index.now pid.now) }
     requires heard { IfTold (D.state dumps.old).now (λ dump.
-        heard ≡ roots_told skeleton.now.addresses (mail_roots dump index.now pid.now)) }
+        heard ≡ roots_told pids skeleton.now.addresses (mail_roots dump index.now pid.now)) }
     ensures reads { ReadsAtMost (D.state dumps.old) (D.state dumps.new)
         (bodies_length (heap_bodies pid.now (sections_in index.now))) }
     ensures fault { IfErr result (IsReadCauseOf (D.state dumps.old) (D.state dumps.new)) }
     ensures messages { IfOk result (λ messages. IfTold (D.state dumps.old).now (λ dump.
-        messages ≡ messages_of (cells_for dump index.now pid.now) (mail_roots dump index.now pid.now))) }
+        messages ≡ messages_of pids (cells_for dump index.now pid.now) (mail_roots dump index.now pid.now))) }
 {
     let cells = subject_cells(alloc, &heard)?;
-    let shapes = cell_shapes(alloc, dumps, index, pid, skeleton, &cells)?;
+    let shapes = cell_shapes_with(alloc, dumps, index, pid, skeleton, &cells, pids)?;
     Ok(Messages {
         heard,
         cells,
@@ -85,7 +86,9 @@ fn sorted_groups(alloc: Global, messages: &Messages) -> Result<Vec<TextGroup>, A
 }
 
 impl MailShapes {
-    /// Reads the mailbox of a process and its heap, and returns its messages with their shapes. The process
+    /// Reads the mailbox of a process and its heap, and returns its messages with their shapes. With `pids` a pid is
+    /// shown by its text, of which at most the first 255 bytes count, where it is the message, an element of a tuple to
+    /// which the message refers, or one of a tuple inside that; pids of other nodes, to which these refer, are not. The process
     /// need not be there; a missing section counts as empty. The index was built over the open file, which stays open.
     ///
     /// The mailbox is read once, and the heap and the literals twice, in pieces of at most 65,536 bytes. Nothing that they
@@ -99,7 +102,8 @@ impl MailShapes {
     /// and an entry of a tree for each different shape; a list that grows has room for as much again. So the memory is
     /// linear in the bytes of the sections, and the time n log n: a shape is made and looked up once for each cell, and
     /// not for each message. The most by far is a shape of 2,213 bytes for a line of some 40: eight references to a tuple
-    /// with a long atom.
+    /// with a long atom. Where pids are shown that is 16,437 bytes for eight references to a tuple with eight long pids, of
+    /// which the shape inside a message has 2,053; those of a node have less than 20.
     ///
     /// `Memory` may come from any allocation, and comes where a [`Skeleton`] can't hold the heap, or one of four pools of
     /// texts would have 4 GiB or more: the first elements of tuples, the shapes of these tuples inside messages, the shapes
@@ -109,6 +113,7 @@ impl MailShapes {
         dumps: &mut D,
         index: &Index,
         pid: &[u8],
+        pids: bool,
     ) -> Result<MailShapes, ReadFault>
         requires { IsBuiltOver (D.state dumps.old).now index.now }
         ensures reads { let sections = sections_in index.now in
@@ -116,11 +121,11 @@ impl MailShapes {
             (body_size (root_section Mail pid.now sections) + 2 * bodies_length (heap_bodies pid.now sections)) }
         ensures fault { IfErr result (IsReadCauseOf (D.state dumps.old) (D.state dumps.new)) }
         ensures shapes { IfOk result (λ shapes. IfTold (D.state dumps.old).now
-            (λ dump. shapes ≡ mail_shapes dump index.now pid.now)) }
+            (λ dump. shapes ≡ mail_shapes pids dump index.now pid.now)) }
     {
         let skeleton = Skeleton::load(alloc, dumps, index, pid)?;
-        let heard = hear_mail(alloc, dumps, index, pid, &skeleton)?;
-        let messages = shape_messages(alloc, dumps, index, pid, &skeleton, heard)?;
+        let heard = hear_mail(alloc, dumps, index, pid, &skeleton, pids)?;
+        let messages = shape_messages(alloc, dumps, index, pid, &skeleton, heard, pids)?;
         let groups = sorted_groups(alloc, &messages)?;
         Ok(MailShapes { messages, groups })
     }

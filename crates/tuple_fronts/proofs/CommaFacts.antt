@@ -1,5 +1,5 @@
 -- Texts with commas between them, one after another.
-use Rattle.std.proofs.Common.{◌≡◌, ℕ, zero, suc, ◌+◌, ◌<◌, ◌≤◌, List, [], ◌∷◌, ◌++◌, length, map, take, Some, refl, sym, ◌∙◌, ap, arith, append_assoc}
+use Rattle.std.proofs.Common.{◌≡◌, ℕ, zero, suc, ◌+◌, ◌<◌, ◌≤◌, Bool, List, [], ◌∷◌, ◌++◌, length, map, take, Some, refl, sym, ◌∙◌, ap, arith, append_assoc}
 use Rattle.std.specs.Prelude.{codes, slice_get, ◌==◌, if◌then◌else◌}
 use Rattle.std.specs.Option.{option_map}
 use Rattle.std.proofs.lemmas.Bool.{eqb-true, false_from_ne_true, lt-ltb}
@@ -7,7 +7,7 @@ use Rattle.std.proofs.lemmas.List.{length-map, length-take-le, take_all}
 use Rattle.std.proofs.lemmas.Option.{none-some, same_Some, slice_get-map, slice_get_within}
 use Rattle.dump_io.specs.Laws.Lists.{take-at}
 use Rattle.term_forms.specs.Elements.{Element}
-use Rattle.tuple_fronts.specs.Shapes.{comma_list, tag_text, tag_texts}
+use Rattle.tuple_fronts.specs.Shapes.{comma_list, or_pid, tag_text, tags_with}
 use Rattle.tuple_fronts.specs.Inner.CellTexts.{comma_behind, tag_at}
 
 -- behind the first element there is a comma
@@ -15,8 +15,8 @@ behind-some : (n : ℕ) → comma_behind (suc n) ≡ codes ","
 behind-some n = ap (λ b. if b then codes "," else []) (lt-ltb 0 (suc n) (omega arith))
 
 -- no other element stands at the first place
-other-place : (i : ℕ) (e : Element) → codes "_" ≡ tag_at (suc i) e
-other-place i e = ap (λ b. if b then tag_text e else codes "_") (sym (false_from_ne_true (suc i == 0) (λ is. no-zero (eqb-true (suc i) 0 is))))
+other-place : (pids : Bool) (i : ℕ) (e : Element) → or_pid pids (codes "_") e ≡ tag_at pids (suc i) e
+other-place pids i e = ap (λ b. or_pid pids (if b then tag_text e else codes "_") e) (sym (false_from_ne_true (suc i == 0) (λ is. no-zero (eqb-true (suc i) 0 is))))
   where
     no-zero : suc i ≡ 0 → ⊥
     no-zero is = omega (arith, is)
@@ -55,15 +55,16 @@ comma-all texts i before now all is = is ∙ ap (λ l. before ++ comma_list l) (
 
 -- ---- the elements of a tuple inside a message
 
-pub tags-count : (es : List Element) → length (tag_texts es) ≡ length es
-tags-count [] = refl
-tags-count (e ∷ es) = ap suc (length-map es (λ e. codes "_"))
+pub tags-count : (pids : Bool) (es : List Element) → length (tags_with pids es) ≡ length es
+tags-count pids [] = refl
+tags-count pids (e ∷ es) = ap suc (length-map es (or_pid pids (codes "_")))
 
-pub tag-there : (es : List Element) (i : ℕ) (e : Element) → slice_get es i ≡ Some e → slice_get (tag_texts es) i ≡ Some (tag_at i e)
-tag-there [] zero e is = absurd (none-some e is)
-tag-there [] (suc i) e is = absurd (none-some e is)
-tag-there (first ∷ es) zero e is = ap (λ f. Some (tag_text f)) (same_Some first e is)
-tag-there (first ∷ es) (suc i) e is = slice_get-map (λ e. codes "_") es i ∙ ap (option_map (λ e. codes "_")) is ∙ ap Some (other-place i e)
+pub tag-there : (pids : Bool) (es : List Element) (i : ℕ) (e : Element) → slice_get es i ≡ Some e → slice_get (tags_with pids es) i ≡ Some (tag_at pids i e)
+tag-there pids [] zero e is = absurd (none-some e is)
+tag-there pids [] (suc i) e is = absurd (none-some e is)
+tag-there pids (first ∷ es) zero e is = ap (λ f. Some (or_pid pids (tag_text f) f)) (same_Some first e is)
+tag-there pids (first ∷ es) (suc i) e is =
+    slice_get-map (or_pid pids (codes "_")) es i ∙ ap (option_map (or_pid pids (codes "_"))) is ∙ ap Some (other-place pids i e)
 
 -- ---- those of a message
 

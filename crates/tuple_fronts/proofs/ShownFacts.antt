@@ -19,11 +19,11 @@ use Rattle.heap_skeleton.specs.Skeletons.{SkeletonMap, heap_in, is_tuple, is_tup
 use Rattle.term_forms.specs.Elements.{Element, Ref}
 use Rattle.term_forms.specs.Forms.{HeapForm, Tuple}
 use Rattle.tuple_fronts.specs.Fronts.{cells_for, form_front, front_of, fronts_for}
-use Rattle.tuple_fronts.specs.Shapes.{cell_shape, comma_list, element_shape, form_shape, inner_shape, subject_shape, tag_text, tag_texts, tuple_text}
+use Rattle.tuple_fronts.specs.Shapes.{cell_shape_with, comma_list, element_with, form_with, inner_shape, or_pid, subject_with, tag_text, tags_with, tuple_text}
 use Rattle.tuple_fronts.specs.Inner.CellTexts.{comma_behind, element_text, inner_text, kind_text, subject_text, tuple_with}
 use Rattle.tuple_fronts.specs.CellSets.{cell_with, place_of}
 use Rattle.tuple_fronts.specs.Inner.Tuples.{TupleMap, front_at, lead_tuple, needed, needed_at}
-use Rattle.tuple_fronts.specs.CellShapes.{cell_shapes, inner_shapes}
+use Rattle.tuple_fronts.specs.CellShapes.{cell_shapes_with, inner_shapes}
 use Rattle.tuple_fronts.specs.Laws.CellSets.{at-place}
 use Rattle.tuple_fronts.proofs.CommaFacts.{comma-last, tags-count}
 
@@ -40,9 +40,9 @@ tuple-shown all shown count count_is shown_is =
     ∙ ap (λ l. codes "{" ++ l) (sym (append_assoc (comma_list (take 8 all)) more (codes "}")))
     ∙ ap (λ l. codes "{" ++ (l ++ codes "}")) (sym (rest-shown (take 8 all) (nat_lt 8 (length all))))
 
-tags-take : (es : List Element) → tag_texts (take 8 es) ≡ take 8 (tag_texts es)
-tags-take [] = refl
-tags-take (e ∷ es) = ap (λ l. tag_text e ∷ l) (sym (take-map (λ e. codes "_") 7 es))
+tags-take : (pids : Bool) (es : List Element) → tags_with pids (take 8 es) ≡ take 8 (tags_with pids es)
+tags-take pids [] = refl
+tags-take pids (e ∷ es) = ap (λ l. or_pid pids (tag_text e) e ∷ l) (sym (take-map (or_pid pids (codes "_")) 7 es))
 
 -- ---- numbers in a list
 
@@ -66,7 +66,7 @@ kind-in (cell ∷ cells) (suc n) = kind-in cells n
 number-in : (cells : List Cell) (address : ℕ) → cell_with (addresses cells) address ≡ number_at cells address
 number-in cells address = position-map (λ a. a == address) (λ (cell : Cell). cell.address) cells
 
-module _ (heap : HeapMap) (lines : List ℕ) (t : TupleMap) (rising : IsStrictlyIncreasing t.cells) (fronts_are : t.fronts ≡ map (front_of heap.cells) t.cells) where
+module _ (pids : Bool) (heap : HeapMap) (lines : List ℕ) (t : TupleMap) (rising : IsStrictlyIncreasing t.cells) (fronts_are : t.fronts ≡ map (front_of heap.cells) t.cells) where
   abbrev cells : List Cell
   cells = heap.cells
 
@@ -81,18 +81,18 @@ module _ (heap : HeapMap) (lines : List ℕ) (t : TupleMap) (rising : IsStrictly
   -- ---- a cell inside a message
 
   inner-by : (o : Option HeapForm) (front : List Element) → (is_tuple_kind (option_map kind_of o) ≡ true → front ≡ form_front o)
-      → (if is_tuple_kind (option_map kind_of o) then tuple_with (length (places_of cells o)) (tag_texts front) else kind_text (option_map kind_of o)) ≡ form_shape o
+      → (if is_tuple_kind (option_map kind_of o) then tuple_with (length (places_of cells o)) (tags_with pids front) else kind_text (option_map kind_of o)) ≡ form_with pids o
   inner-by None front known = refl
   inner-by (Some (Tuple es)) front known =
-      tuple-shown (tag_texts es) (tag_texts front) (length (places_of cells (Some (Tuple es))))
-      (length-map es (λ e. cell_in (target cells e)) ∙ sym (tags-count es))
-      (ap tag_texts (known refl) ∙ tags-take es)
+      tuple-shown (tags_with pids es) (tags_with pids front) (length (places_of cells (Some (Tuple es))))
+      (length-map es (λ e. cell_in (target cells e)) ∙ sym (tags-count pids es))
+      (ap (tags_with pids) (known refl) ∙ tags-take pids es)
   inner-by (Some form) front known = refl
 
   abbrev inner_with : Option Kind → List (Option ℕ) → List Element → List ℕ
-  inner_with kind places front = if is_tuple_kind kind then tuple_with (length places) (tag_texts front) else kind_text kind
+  inner_with kind places front = if is_tuple_kind kind then tuple_with (length places) (tags_with pids front) else kind_text kind
 
-  inner-is : (n : ℕ) → (is_tuple s n ≡ true → Contains t.cells n) → inner_text s t n ≡ form_shape (form_at cells n)
+  inner-is : (n : ℕ) → (is_tuple s n ≡ true → Contains t.cells n) → inner_text pids s t n ≡ form_with pids (form_at cells n)
   inner-is n has =
       let o = form_at cells n in
       let kind_is : cell_kind s.kinds n ≡ option_map kind_of o = kind-in cells n in
@@ -105,18 +105,18 @@ module _ (heap : HeapMap) (lines : List ℕ) (t : TupleMap) (rising : IsStrictly
   lead e = cell_in (target cells e)
 
   reference-by : (address : ℕ) (o : Option ℕ) → ((n : ℕ) → Contains (lead_tuple s (cell_in (target_at address o))) n → Contains t.cells n)
-      → option_map_or (inner_text s t) o (codes "missing()") ≡ option_map_or (λ n. form_shape (form_at cells n)) o (codes "missing()")
+      → option_map_or (inner_text pids s t) o (codes "missing()") ≡ option_map_or (λ n. form_with pids (form_at cells n)) o (codes "missing()")
   reference-by address None has = refl
   reference-by address (Some n) has =
       inner-is n (λ tuple. has n (subst (λ b. Contains (if b then n ∷ [] else []) n) (sym tuple) (head-contained n [])))
 
-  element-is : (e : Element) → ((n : ℕ) → Contains (lead_tuple s (lead e)) n → Contains t.cells n) → element_text s t e ≡ element_shape cells e
+  element-is : (e : Element) → ((n : ℕ) → Contains (lead_tuple s (lead e)) n → Contains t.cells n) → element_text pids s t e ≡ element_with pids cells e
   element-is (Ref address) has =
-      ap (λ o. option_map_or (inner_text s t) o (codes "missing()")) (number-in cells address)
+      ap (λ o. option_map_or (inner_text pids s t) o (codes "missing()")) (number-in cells address)
       ∙ reference-by address (number_at cells address) has
   element-is e has = refl
 
-  elements-are : (es : List Element) → ((n : ℕ) → Contains (flat_map (lead_tuple s) (map lead es)) n → Contains t.cells n) → map (element_text s t) es ≡ map (element_shape cells) es
+  elements-are : (es : List Element) → ((n : ℕ) → Contains (flat_map (lead_tuple s) (map lead es)) n → Contains t.cells n) → map (element_text pids s t) es ≡ map (element_with pids cells) es
   elements-are [] has = refl
   elements-are (e ∷ es) has =
       ap₂ (λ text texts. text ∷ texts)
@@ -128,30 +128,30 @@ module _ (heap : HeapMap) (lines : List ℕ) (t : TupleMap) (rising : IsStrictly
   abbrev needed_with : ℕ → Option Kind → List (Option ℕ) → List ℕ
   needed_with n kind places = if is_tuple_kind kind then n ∷ flat_map (lead_tuple s) (take 8 places) else []
 
-  abbrev subject_with : Option Kind → List (Option ℕ) → List Element → List ℕ
-  subject_with kind places front = if is_tuple_kind kind then tuple_with (length places) (map (element_text s t) front) else kind_text kind
+  abbrev subject_by_kind : Option Kind → List (Option ℕ) → List Element → List ℕ
+  subject_by_kind kind places front = if is_tuple_kind kind then tuple_with (length places) (map (element_text pids s t) front) else kind_text kind
 
   subject-by : (n : ℕ) (o : Option HeapForm) (front : List Element) → (is_tuple_kind (option_map kind_of o) ≡ true → front ≡ form_front o)
       → ((m : ℕ) → Contains (needed_with n (option_map kind_of o) (places_of cells o)) m → Contains t.cells m)
-      → subject_with (option_map kind_of o) (places_of cells o) front ≡ subject_shape cells o
+      → subject_by_kind (option_map kind_of o) (places_of cells o) front ≡ subject_with pids cells o
   subject-by n None front known has = refl
   subject-by n (Some (Tuple es)) front known has =
       let leads : List (Option ℕ) = take 8 (map lead es) in
-      tuple-shown (map (element_shape cells) es) (map (element_text s t) front) (length (places_of cells (Some (Tuple es))))
-      (length-map es lead ∙ sym (length-map es (element_shape cells)))
-      (ap (map (element_text s t)) (known refl)
+      tuple-shown (map (element_with pids cells) es) (map (element_text pids s t) front) (length (places_of cells (Some (Tuple es))))
+      (length-map es lead ∙ sym (length-map es (element_with pids cells)))
+      (ap (map (element_text pids s t)) (known refl)
       ∙ elements-are (take 8 es) (λ m there. has m
       (Contains-append_right (n ∷ []) (flat_map (lead_tuple s) leads) m
       (subst (λ l. Contains (flat_map (lead_tuple s) l) m) (sym (take-map lead 8 es)) there)))
-      ∙ sym (take-map (element_shape cells) 8 es))
+      ∙ sym (take-map (element_with pids cells) 8 es))
   subject-by n (Some form) front known has = refl
 
-  subject-is : (n : ℕ) → ((m : ℕ) → Contains (needed_at s n) m → Contains t.cells m) → subject_text s t n ≡ subject_shape cells (form_at cells n)
+  subject-is : (n : ℕ) → ((m : ℕ) → Contains (needed_at s n) m → Contains t.cells m) → subject_text pids s t n ≡ subject_with pids cells (form_at cells n)
   subject-is n has =
       let o = form_at cells n in
       let kind_is : cell_kind s.kinds n ≡ option_map kind_of o = kind-in cells n in
       let places_are : places_at s.leads n ≡ places_of cells o = places-of cells n in
-      ap₂ (λ kind places. subject_with kind places (front_at t n)) kind_is places_are
+      ap₂ (λ kind places. subject_by_kind kind places (front_at t n)) kind_is places_are
       ∙ subject-by n o (front_at t n)
       (λ tuple. front-known n (has n (subst (λ b. Contains (if b then n ∷ flat_map (lead_tuple s) (take 8 (places_at s.leads n)) else []) n) (sym (ap is_tuple_kind kind_is ∙ tuple)) (head-contained n _))))
       (λ m there. has m (subst (λ l. Contains l m) (sym (ap₂ (needed_with n) kind_is places_are)) there))
@@ -166,24 +166,24 @@ same-images f g (x ∷ xs) same =
 
 -- the shapes inside messages, from what was kept of the heap
 pub inner-shown : (dump : List ℕ) (index : Contents) (pid : List ℕ) (s : SkeletonMap) (t : TupleMap) (numbers : List ℕ) (texts : List (List ℕ))
-    → s ≡ skeleton_for dump index pid → IsStrictlyIncreasing numbers → t.cells ≡ numbers → t.fronts ≡ fronts_for dump index pid numbers → texts ≡ map (inner_text s t) t.cells
+    → s ≡ skeleton_for dump index pid → IsStrictlyIncreasing numbers → t.cells ≡ numbers → t.fronts ≡ fronts_for dump index pid numbers → texts ≡ map (inner_text false s t) t.cells
     → texts ≡ inner_shapes dump index pid numbers
 inner-shown dump index pid s t numbers texts s_is rising numbers_are fronts_are texts_are =
     let sections = sections_in index in
     let heap = heap_in dump index (heap_section pid sections) (literals_section sections) in
     let lines = lines_in dump (heap_section pid sections) (literals_section sections) in
     texts_are
-    ∙ ap₂ (λ (k : SkeletonMap) cells. map (inner_text k t) cells) s_is numbers_are
-    ∙ same-images (inner_text (skeleton_of heap lines) t) (inner_shape heap.cells) numbers
-    (λ n has. inner-is heap lines t (subst IsStrictlyIncreasing (sym numbers_are) rising) (fronts_are ∙ ap (map (front_of heap.cells)) (sym numbers_are)) n
+    ∙ ap₂ (λ (k : SkeletonMap) cells. map (inner_text false k t) cells) s_is numbers_are
+    ∙ same-images (inner_text false (skeleton_of heap lines) t) (inner_shape heap.cells) numbers
+    (λ n has. inner-is false heap lines t (subst IsStrictlyIncreasing (sym numbers_are) rising) (fronts_are ∙ ap (map (front_of heap.cells)) (sym numbers_are)) n
     (λ tuple. subst (λ l. Contains l n) (sym numbers_are) has))
 
 -- the shapes of messages that refer to cells, from what was kept of the heap
-pub subjects-shown : (dump : List ℕ) (index : Contents) (pid : List ℕ) (s : SkeletonMap) (t : TupleMap) (subjects numbers : List ℕ) (texts : List (List ℕ))
+pub subjects-shown : (pids : Bool) (dump : List ℕ) (index : Contents) (pid : List ℕ) (s : SkeletonMap) (t : TupleMap) (subjects numbers : List ℕ) (texts : List (List ℕ))
     → s ≡ skeleton_for dump index pid → IsStrictlyIncreasing numbers → ((m : ℕ) → Contains (needed s subjects) m → Contains numbers m)
-    → t.cells ≡ numbers → t.fronts ≡ fronts_for dump index pid numbers → texts ≡ map (subject_text s t) subjects
-    → texts ≡ cell_shapes dump index pid subjects
-subjects-shown dump index pid s t subjects numbers texts s_is rising has numbers_are fronts_are texts_are =
+    → t.cells ≡ numbers → t.fronts ≡ fronts_for dump index pid numbers → texts ≡ map (subject_text pids s t) subjects
+    → texts ≡ cell_shapes_with pids dump index pid subjects
+subjects-shown pids dump index pid s t subjects numbers texts s_is rising has numbers_are fronts_are texts_are =
     let sections = sections_in index in
     let heap = heap_in dump index (heap_section pid sections) (literals_section sections) in
     let lines = lines_in dump (heap_section pid sections) (literals_section sections) in
@@ -191,7 +191,7 @@ subjects-shown dump index pid s t subjects numbers texts s_is rising has numbers
     let there : (m : ℕ) → Contains (needed whole subjects) m → Contains t.cells m =
     λ m inside. subst (λ l. Contains l m) (sym numbers_are) (has m (subst (λ k. Contains (needed k subjects) m) (sym s_is) inside)) in
     texts_are
-    ∙ ap (λ (k : SkeletonMap). map (subject_text k t) subjects) s_is
-    ∙ same-images (subject_text whole t) (cell_shape heap.cells) subjects
-    (λ n one. subject-is heap lines t (subst IsStrictlyIncreasing (sym numbers_are) rising) (fronts_are ∙ ap (map (front_of heap.cells)) (sym numbers_are)) n
+    ∙ ap (λ (k : SkeletonMap). map (subject_text pids k t) subjects) s_is
+    ∙ same-images (subject_text pids whole t) (cell_shape_with pids heap.cells) subjects
+    (λ n one. subject-is pids heap lines t (subst IsStrictlyIncreasing (sym numbers_are) rising) (fronts_are ∙ ap (map (front_of heap.cells)) (sym numbers_are)) n
     (λ m inside. there m (flat-contained (needed_at whole) subjects n m one inside)))

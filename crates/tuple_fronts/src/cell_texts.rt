@@ -1,19 +1,35 @@
-// The shapes of cells.
-ghost use Rattle.std.specs.Prelude.{◌≡◌, ◌<◌, ◌++◌, All, length, map, IfOk, OnOk};
+// The shapes of cells, in which pids are shown or not.
+ghost use Rattle.std.specs.Prelude.{◌≡◌, ◌<◌, ◌++◌, All, false, length, map, IfOk, OnOk};
 ghost use Rattle.term_forms.specs.Seen.{element};
-ghost use Rattle.tuple_fronts.specs.Shapes.{comma_list, tag_texts};
+ghost use Rattle.tuple_fronts.specs.Shapes.{comma_list, tags_with};
 ghost use Rattle.tuple_fronts.specs.Inner.CellTexts.{element_text, element_texts, inner_text, size_of, subject_text, tag_at, tuple_with, AreInner};
 ghost use Rattle.tuple_fronts.specs.Inner.Tuples.{front_at};
 
 use crate::cell_set::CellSet;
 use crate::texts::Texts;
 use crate::tuples::Tuples;
-use crate::words::{kind_word, push_comma, push_end, push_plain, push_tag};
+use crate::words::{kind_word, push_comma, push_end, push_pid, push_plain_with, push_tag};
 use cell_graphs::CellGraph;
 use cell_parts::Kinded;
 use heap_skeleton::Skeleton;
 use std::alloc::{AllocError, Global};
 use term_forms::shapes::Elem;
+
+// Appends the text of the element at a place of a tuple inside a message, if no pid is shown.
+fn push_unshown(
+    alloc: Global,
+    text: &mut Vec<u8>,
+    place: usize,
+    e: &Elem<'_>,
+) -> Result<(), AllocError>
+    ensures { OnOk result (text.new.items ≡ text.old.items ++ tag_at false place (element e.now)) }
+{
+    if place == 0 {
+        push_tag(alloc, text, e)
+    } else {
+        text.extend_from_slice(b"_")
+    }
+}
 
 // Appends the text of the element at a place of a tuple inside a message.
 fn push_tag_at(
@@ -21,13 +37,13 @@ fn push_tag_at(
     text: &mut Vec<u8>,
     place: usize,
     e: &Elem<'_>,
+    pids: bool,
 ) -> Result<(), AllocError>
-    ensures { OnOk result (text.new.items ≡ text.old.items ++ tag_at place (element e.now)) }
+    ensures { OnOk result (text.new.items ≡ text.old.items ++ tag_at pids place (element e.now)) }
 {
-    if place == 0 {
-        push_tag(alloc, text, e)
-    } else {
-        text.extend_from_slice(b"_")
+    match e {
+        Elem::Pid(pid) => push_pid(text, pid, b"_", pids),
+        _ => push_unshown(alloc, text, place, e),
     }
 }
 
@@ -37,12 +53,13 @@ fn push_tags(
     text: &mut Vec<u8>,
     tuples: &Tuples,
     cell: u32,
+    pids: bool,
 ) -> Result<(), AllocError>
-    ensures { OnOk result (text.new.items ≡ text.old.items ++ comma_list (tag_texts (front_at tuples.now cell))) }
+    ensures { OnOk result (text.new.items ≡ text.old.items ++ comma_list (tags_with pids (front_at tuples.now cell))) }
 {
     for place in 0..tuples.count(cell) {
         push_comma(text, place)?;
-        push_tag_at(alloc, text, place, &tuples.element(cell, place))?;
+        push_tag_at(alloc, text, place, &tuples.element(cell, place), pids)?;
     }
     Ok(())
 }
@@ -54,13 +71,14 @@ fn push_inner_tuple(
     skeleton: &Skeleton,
     tuples: &Tuples,
     cell: u32,
+    pids: bool,
 ) -> Result<(), AllocError>
     requires { cell < length skeleton.now.leads }
     ensures { OnOk result (text.new.items ≡ text.old.items
-        ++ tuple_with (size_of skeleton.now cell) (tag_texts (front_at tuples.now cell))) }
+        ++ tuple_with (size_of skeleton.now cell) (tags_with pids (front_at tuples.now cell))) }
 {
     text.push(b'{')?;
-    push_tags(alloc, text, tuples, cell)?;
+    push_tags(alloc, text, tuples, cell, pids)?;
     push_end(text, tuples.count(cell), skeleton.places(cell))
 }
 
@@ -71,12 +89,13 @@ fn push_new_inner(
     skeleton: &Skeleton,
     tuples: &Tuples,
     cell: u32,
+    pids: bool,
 ) -> Result<(), AllocError>
     requires { cell < length skeleton.now.leads }
-    ensures { OnOk result (text.new.items ≡ text.old.items ++ inner_text skeleton.now tuples.now cell) }
+    ensures { OnOk result (text.new.items ≡ text.old.items ++ inner_text pids skeleton.now tuples.now cell) }
 {
     if skeleton.is_tuple(cell) {
-        push_inner_tuple(alloc, text, skeleton, tuples, cell)
+        push_inner_tuple(alloc, text, skeleton, tuples, cell, pids)
     } else {
         text.extend_from_slice(kind_word(Kinded::kind(skeleton, cell)))
     }
@@ -87,15 +106,16 @@ pub(crate) fn inner_texts(
     alloc: Global,
     skeleton: &Skeleton,
     tuples: &Tuples,
+    pids: bool,
 ) -> Result<Texts, AllocError>
     requires { All (λ n. n < length skeleton.now.leads) tuples.now.cells }
-    ensures { IfOk result (AreInner skeleton.now tuples.now) }
+    ensures { IfOk result (AreInner pids skeleton.now tuples.now) }
 {
     let mut texts = Texts::new(alloc);
     let mut text = Vec::new(alloc);
     for cell in tuples.cells() {
         text.clear();
-        push_new_inner(alloc, &mut text, skeleton, tuples, *cell)?;
+        push_new_inner(alloc, &mut text, skeleton, tuples, *cell, pids)?;
         texts.push(&text)?;
     }
     Ok(texts)
@@ -109,14 +129,15 @@ fn push_inner(
     tuples: &Tuples,
     inner: &Texts,
     cell: u32,
+    pids: bool,
 ) -> Result<(), AllocError>
     requires cell { cell < length skeleton.now.leads }
-    requires inner { AreInner skeleton.now tuples.now inner.now }
-    ensures { OnOk result (text.new.items ≡ text.old.items ++ inner_text skeleton.now tuples.now cell) }
+    requires inner { AreInner pids skeleton.now tuples.now inner.now }
+    ensures { OnOk result (text.new.items ≡ text.old.items ++ inner_text pids skeleton.now tuples.now cell) }
 {
     match tuples.place(cell) {
         Some(place) => text.extend_from_slice(inner.get(place)),
-        None => push_new_inner(alloc, text, skeleton, tuples, cell),
+        None => push_new_inner(alloc, text, skeleton, tuples, cell, pids),
     }
 }
 
@@ -128,17 +149,18 @@ fn push_element(
     tuples: &Tuples,
     inner: &Texts,
     e: &Elem<'_>,
+    pids: bool,
 ) -> Result<(), AllocError>
-    requires { AreInner skeleton.now tuples.now inner.now }
+    requires { AreInner pids skeleton.now tuples.now inner.now }
     ensures { OnOk result (text.new.items ≡ text.old.items
-        ++ element_text skeleton.now tuples.now (element e.now)) }
+        ++ element_text pids skeleton.now tuples.now (element e.now)) }
 {
     if let Elem::Ref(address) = e {
         if let Some(cell) = skeleton.find(*address) {
-            return push_inner(alloc, text, skeleton, tuples, inner, cell);
+            return push_inner(alloc, text, skeleton, tuples, inner, cell, pids);
         }
     }
-    push_plain(alloc, text, e)
+    push_plain_with(alloc, text, e, pids)
 }
 
 // Appends the shapes of the first elements of a cell.
@@ -149,10 +171,11 @@ fn push_elements(
     tuples: &Tuples,
     inner: &Texts,
     cell: u32,
+    pids: bool,
 ) -> Result<(), AllocError>
-    requires { AreInner skeleton.now tuples.now inner.now }
+    requires { AreInner pids skeleton.now tuples.now inner.now }
     ensures { OnOk result (text.new.items ≡ text.old.items
-        ++ comma_list (element_texts skeleton.now tuples.now cell)) }
+        ++ comma_list (element_texts pids skeleton.now tuples.now cell)) }
 {
     for place in 0..tuples.count(cell) {
         push_comma(text, place)?;
@@ -163,6 +186,7 @@ fn push_elements(
             tuples,
             inner,
             &tuples.element(cell, place),
+            pids,
         )?;
     }
     Ok(())
@@ -176,14 +200,15 @@ fn push_subject_tuple(
     tuples: &Tuples,
     inner: &Texts,
     cell: u32,
+    pids: bool,
 ) -> Result<(), AllocError>
     requires cell { cell < length skeleton.now.leads }
-    requires inner { AreInner skeleton.now tuples.now inner.now }
+    requires inner { AreInner pids skeleton.now tuples.now inner.now }
     ensures { OnOk result (text.new.items ≡ text.old.items
-        ++ tuple_with (size_of skeleton.now cell) (element_texts skeleton.now tuples.now cell)) }
+        ++ tuple_with (size_of skeleton.now cell) (element_texts pids skeleton.now tuples.now cell)) }
 {
     text.push(b'{')?;
-    push_elements(alloc, text, skeleton, tuples, inner, cell)?;
+    push_elements(alloc, text, skeleton, tuples, inner, cell, pids)?;
     push_end(text, tuples.count(cell), skeleton.places(cell))
 }
 
@@ -195,13 +220,14 @@ fn push_subject(
     tuples: &Tuples,
     inner: &Texts,
     cell: u32,
+    pids: bool,
 ) -> Result<(), AllocError>
     requires cell { cell < length skeleton.now.leads }
-    requires inner { AreInner skeleton.now tuples.now inner.now }
-    ensures { OnOk result (text.new.items ≡ text.old.items ++ subject_text skeleton.now tuples.now cell) }
+    requires inner { AreInner pids skeleton.now tuples.now inner.now }
+    ensures { OnOk result (text.new.items ≡ text.old.items ++ subject_text pids skeleton.now tuples.now cell) }
 {
     if skeleton.is_tuple(cell) {
-        push_subject_tuple(alloc, text, skeleton, tuples, inner, cell)
+        push_subject_tuple(alloc, text, skeleton, tuples, inner, cell, pids)
     } else {
         text.extend_from_slice(kind_word(Kinded::kind(skeleton, cell)))
     }
@@ -214,16 +240,17 @@ pub(crate) fn subject_texts(
     tuples: &Tuples,
     inner: &Texts,
     cells: &CellSet,
+    pids: bool,
 ) -> Result<Texts, AllocError>
     requires cells { All (λ n. n < length skeleton.now.leads) cells.now }
-    requires inner { AreInner skeleton.now tuples.now inner.now }
-    ensures { IfOk result (λ texts. texts ≡ map (subject_text skeleton.now tuples.now) cells.now) }
+    requires inner { AreInner pids skeleton.now tuples.now inner.now }
+    ensures { IfOk result (λ texts. texts ≡ map (subject_text pids skeleton.now tuples.now) cells.now) }
 {
     let mut texts = Texts::new(alloc);
     let mut text = Vec::new(alloc);
     for cell in cells.numbers() {
         text.clear();
-        push_subject(alloc, &mut text, skeleton, tuples, inner, *cell)?;
+        push_subject(alloc, &mut text, skeleton, tuples, inner, *cell, pids)?;
         texts.push(&text)?;
     }
     Ok(texts)

@@ -16,6 +16,7 @@
 //! The *shape* of a cell says of what kind it is, and of a tuple what its first elements are (`specs/Shapes.antt`):
 //! [`cell_shapes`] has that of a message that refers to it, as `{'$gen_cast',{put,_,_}}`, and [`inner_shapes`] that which
 //! it has inside a message, as `{put,_,_}`. Of an atom at most the first 255 bytes are shown. The cells are a [`CellSet`].
+//! [`cell_shapes_with`] can also show pids that are elements, as `{ok,<0.81.0>}`.
 #![tactic(auto)]
 
 mod cell_set;
@@ -34,6 +35,6 @@ mod words;
 
 pub use cell_set::CellSet;
 pub use fronts::TupleFronts;
-pub use shapes::{cell_shapes, inner_shapes};
+pub use shapes::{cell_shapes, cell_shapes_with, inner_shapes};
 pub use texts::Texts;
-pub use words::push_plain;
+pub use words::{push_plain, push_plain_with};

@@ -6,7 +6,7 @@ ghost use Rattle.dump_sections.specs.Index.{sections_in, IsBuiltOver};
 ghost use Rattle.dump_sections.specs.Loading.{bodies_length};
 ghost use Rattle.heap_cells.specs.Loading.{heap_bodies};
 ghost use Rattle.heap_skeleton.specs.Skeletons.{skeleton_for};
-ghost use Rattle.tuple_fronts.specs.CellShapes.{cell_shapes, inner_shapes};
+ghost use Rattle.tuple_fronts.specs.CellShapes.{cell_shapes, cell_shapes_with, inner_shapes};
 
 use crate::cell_set::CellSet;
 use crate::cell_texts::{inner_texts, subject_texts};
@@ -46,7 +46,7 @@ pub fn inner_shapes<D: Dumps>(
         (λ dump. shapes ≡ inner_shapes dump index.now pid.now cells)) }
 {
     let tuples = Tuples::load(alloc, dumps, index, pid, skeleton, cells)?;
-    let shapes = inner_texts(alloc, skeleton, &tuples)?;
+    let shapes = inner_texts(alloc, skeleton, &tuples, false)?;
     Ok(shapes)
 }
 
@@ -54,9 +54,41 @@ pub fn inner_shapes<D: Dumps>(
 /// of messages that refer to some of its cells, in the order of their numbers. The skeleton is that of this heap. The
 /// index was built over the open file, which stays open.
 ///
+/// With `pids` a pid that is an element is shown by its text, of which at most the first 255 bytes count.
+///
 /// The faults and what is read are those of [`inner_shapes`]. Beside the shapes, each of at most 2,213 bytes, it needs
 /// the texts of the first 8 elements of those cells that are tuples and of the tuples among these elements, and what each
-/// of these is inside a message, of at most 275 bytes: this is made once for each tuple.
+/// of these is inside a message, of at most 275 bytes: this is made once for each tuple. Where pids are shown these are at
+/// most 16,437 and 2,053 bytes.
+pub fn cell_shapes_with<D: Dumps>(
+    alloc: Global,
+    dumps: &mut D,
+    index: &Index,
+    pid: &[u8],
+    skeleton: &Skeleton,
+    cells: &CellSet,
+    pids: bool,
+) -> Result<Texts, ReadFault>
+    requires over { IsBuiltOver (D.state dumps.old).now index.now }
+    requires cells { All (λ n. n < length skeleton.now.leads) cells.now }
+    requires skeleton { IfTold (D.state dumps.old).now
+        (λ dump. skeleton.now ≡ skeleton_for dump index.now pid.now) }
+    ensures reads { ReadsAtMost (D.state dumps.old) (D.state dumps.new)
+        (bodies_length (heap_bodies pid.now (sections_in index.now))) }
+    ensures fault { IfErr result (IsReadCauseOf (D.state dumps.old) (D.state dumps.new)) }
+    ensures count { IfOk result (λ shapes. length shapes ≡ length cells.now) }
+    ensures shapes { IfOk result (λ shapes. IfTold (D.state dumps.old).now
+        (λ dump. shapes ≡ cell_shapes_with pids dump index.now pid.now cells.now)) }
+{
+    skeleton.leads_are_cells();
+    let needed = needed_cells(alloc, skeleton, cells)?;
+    let tuples = Tuples::load(alloc, dumps, index, pid, skeleton, needed)?;
+    let inner = inner_texts(alloc, skeleton, &tuples, pids)?;
+    let shapes = subject_texts(alloc, skeleton, &tuples, &inner, cells, pids)?;
+    Ok(shapes)
+}
+
+/// Returns what [`cell_shapes_with`] does where no pid is shown.
 pub fn cell_shapes<D: Dumps>(
     alloc: Global,
     dumps: &mut D,
@@ -76,10 +108,5 @@ pub fn cell_shapes<D: Dumps>(
     ensures shapes { IfOk result (λ shapes. IfTold (D.state dumps.old).now
         (λ dump. shapes ≡ cell_shapes dump index.now pid.now cells.now)) }
 {
-    skeleton.leads_are_cells();
-    let needed = needed_cells(alloc, skeleton, cells)?;
-    let tuples = Tuples::load(alloc, dumps, index, pid, skeleton, needed)?;
-    let inner = inner_texts(alloc, skeleton, &tuples)?;
-    let shapes = subject_texts(alloc, skeleton, &tuples, &inner, cells)?;
-    Ok(shapes)
+    cell_shapes_with(alloc, dumps, index, pid, skeleton, cells, false)
 }

@@ -3,7 +3,8 @@ ghost use Rattle.std.specs.Prelude.{◌≡◌, ◌++◌, OnOk};
 ghost use Rattle.term_forms.specs.Seen.{element};
 ghost use Rattle.tuple_fronts.specs.Shapes.{atom_shape, tag_text};
 ghost use Rattle.tuple_fronts.specs.Inner.CellTexts.{comma_behind, end_text, kind_text};
-ghost use Rattle.tuple_fronts.specs.Shapes.{plain_shape};
+ghost use Rattle.tuple_fronts.specs.Shapes.{or_pid, plain_shape, plain_with};
+ghost use Rattle.term_forms.specs.Elements.{Pid};
 
 use crate::first_elements::MOST_ELEMENTS;
 use dump_io::{MemSink, put_atom};
@@ -37,7 +38,38 @@ pub fn push_plain(alloc: Global, text: &mut Vec<u8>, e: &Elem<'_>) -> Result<(),
     }
 }
 
-/// Appends the first element of a tuple inside a message.
+/// Appends at most the first 255 bytes of the text of a pid, if pids are shown, and otherwise `unshown`.
+pub(crate) fn push_pid(
+    text: &mut Vec<u8>,
+    pid: &[u8],
+    unshown: &[u8],
+    pids: bool,
+) -> Result<(), AllocError>
+    ensures { OnOk result (text.new.items ≡ text.old.items ++ or_pid pids unshown.now (Pid pid.now)) }
+{
+    if pids {
+        text.extend_from_slice(cut_text(pid))
+    } else {
+        text.extend_from_slice(unshown)
+    }
+}
+
+/// Appends the shape of an element that leads to no cell; of a pid at most the first 255 bytes of its text, if pids are shown.
+pub fn push_plain_with(
+    alloc: Global,
+    text: &mut Vec<u8>,
+    e: &Elem<'_>,
+    pids: bool,
+) -> Result<(), AllocError>
+    ensures { OnOk result (text.new.items ≡ text.old.items ++ plain_with pids (element e.now)) }
+{
+    match e {
+        Elem::Pid(pid) => push_pid(text, pid, b"pid()", pids),
+        _ => push_plain(alloc, text, e),
+    }
+}
+
+/// Appends the first element of a tuple inside a message, if no pid is shown.
 pub(crate) fn push_tag(alloc: Global, text: &mut Vec<u8>, e: &Elem<'_>) -> Result<(), AllocError>
     ensures { OnOk result (text.new.items ≡ text.old.items ++ tag_text (element e.now)) }
 {

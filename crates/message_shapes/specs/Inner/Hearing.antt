@@ -14,10 +14,11 @@ IsReady sink = AreCells (length sink.skeleton.now.leads) sink.heard
 -- the messages among these roots came behind those before
 pub record Tells (old new : MailSink) (roots : List BodyRoot) : Type 0 where
   pub skeleton : new.skeleton ≡ old.skeleton
-  pub heard : new.heard ≡ old.heard ++ roots_told old.skeleton.now.addresses roots
+  pub pids : new.pids ≡ old.pids
+  pub heard : new.heard ≡ old.heard ++ roots_told old.pids old.skeleton.now.addresses roots
 
 -- the messages among the roots in a section of what is open were told behind those before
 pub record TellsSection (now : Now) (found : Option Section) (old new : MailSink) : Type 0 where
   pub skeleton : new.skeleton ≡ old.skeleton
   pub heard : IfTold now (λ dump.
-      new.heard ≡ old.heard ++ roots_told old.skeleton.now.addresses (roots_in_mail dump found))
+      new.heard ≡ old.heard ++ roots_told old.pids old.skeleton.now.addresses (roots_in_mail dump found))

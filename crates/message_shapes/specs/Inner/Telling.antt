@@ -1,9 +1,9 @@
 -- What is told of messages as they are heard: where each stands, and to which cell it refers or what its shape is.
-use Rattle.std.specs.Prelude.{ℕ, ◌<◌, List, [], ◌∷◌, map, filter, flat_map, codes, length, slice_index_or, All}
+use Rattle.std.specs.Prelude.{ℕ, ◌<◌, Bool, List, [], ◌∷◌, map, filter, flat_map, codes, length, slice_index_or, All}
 use Rattle.std.specs.Option.{option_map_or}
 use Rattle.term_forms.specs.Elements.{Element, Ref}
 use Rattle.root_views.specs.Roots.{BodyRoot, Content, Term, Info, Dist, Unread, is_message}
-use Rattle.tuple_fronts.specs.Shapes.{plain_shape}
+use Rattle.tuple_fronts.specs.Shapes.{plain_with}
 use Rattle.tuple_fronts.specs.CellSets.{cell_with}
 use Rattle.message_shapes.specs.declared.heard.Found.{Found}
 use Rattle.message_shapes.specs.declared.heard.Source.{Source}
@@ -58,27 +58,27 @@ abbrev pub shown_source : Source → Origin
 shown_source (source.Cell cell) = OfCell cell
 shown_source (source.Text text) = OfText text.now
 
--- ---- of roots
+-- ---- of roots, where pids are shown or not
 
 -- what a message is that is a term
-abbrev pub element_origin : List ℕ → Element → Origin
-element_origin addresses (Ref address) = option_map_or OfCell (cell_with addresses address) (OfText (codes "missing()"))
-element_origin addresses e = OfText (plain_shape e)
+abbrev pub element_origin : Bool → List ℕ → Element → Origin
+element_origin pids addresses (Ref address) = option_map_or OfCell (cell_with addresses address) (OfText (codes "missing()"))
+element_origin pids addresses e = OfText (plain_with pids e)
 
 -- what a message is
-abbrev pub content_origin : List ℕ → Content → Origin
-content_origin addresses (Term e) = element_origin addresses e
-content_origin addresses (Dist text) = OfText (codes "distribution()")
-content_origin addresses (Info text) = OfText (codes "?")
-content_origin addresses Unread = OfText (codes "?")
+abbrev pub content_origin : Bool → List ℕ → Content → Origin
+content_origin pids addresses (Term e) = element_origin pids addresses e
+content_origin pids addresses (Dist text) = OfText (codes "distribution()")
+content_origin pids addresses (Info text) = OfText (codes "?")
+content_origin pids addresses Unread = OfText (codes "?")
 
 -- a root that is a message
-abbrev pub root_told : List ℕ → BodyRoot → Told
-root_told addresses root = record { at = root.at; source = content_origin addresses root.content }
+abbrev pub root_told : Bool → List ℕ → BodyRoot → Told
+root_told pids addresses root = record { at = root.at; source = content_origin pids addresses root.content }
 
 -- what is told of several roots
-abbrev pub roots_told : List ℕ → List BodyRoot → List Told
-roots_told addresses roots = map (root_told addresses) (filter is_message roots)
+abbrev pub roots_told : Bool → List ℕ → List BodyRoot → List Told
+roots_told pids addresses roots = map (root_told pids addresses) (filter is_message roots)
 
 -- ---- the cells to which messages refer
 

@@ -10,13 +10,15 @@ pub loop-place-preserved : goal.loop-place-preserved
 loop-place-preserved c =
     let s = c.args.skeleton.now in
     let t = c.args.tuples.now in
+    let pids = c.args.pids in
     let e = element c.element.result in
-    comma-next (element_texts s t c.args.cell) c.loop-place.place (element_text s t e) c.args.text.now.items c.loop-place.text.items c.push_comma.new.text.items c.push_element.new.text.items
-    (text-there (element_text s t) (front_at t c.args.cell) c.loop-place.place e c.element.ensures) c.loop-place.invariant c.in_ok-push_comma.ensures c.in_ok-push_element.ensures
+    comma-next (element_texts pids s t c.args.cell) c.loop-place.place (element_text pids s t e) c.args.text.now.items c.loop-place.text.items c.push_comma.new.text.items c.push_element.new.text.items
+    (text-there (element_text pids s t) (front_at t c.args.cell) c.loop-place.place e c.element.ensures) c.loop-place.invariant c.in_ok-push_comma.ensures c.in_ok-push_element.ensures
 
 pub returns : goal.returns
 returns c =
     let s = c.args.skeleton.now in
     let t = c.args.tuples.now in
-    comma-all (element_texts s t c.args.cell) c.loop-place.place c.args.text.now.items c.loop-place.text.items
-    (omega (arith, length-map (front_at t c.args.cell) (element_text s t), c.count-place-end.ensures, c.loop-place-test.false)) c.loop-place.invariant
+    let pids = c.args.pids in
+    comma-all (element_texts pids s t c.args.cell) c.loop-place.place c.args.text.now.items c.loop-place.text.items
+    (omega (arith, length-map (front_at t c.args.cell) (element_text pids s t), c.count-place-end.ensures, c.loop-place-test.false)) c.loop-place.invariant

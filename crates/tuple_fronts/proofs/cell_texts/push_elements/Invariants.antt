@@ -5,4 +5,4 @@ use Rattle.tuple_fronts.proofs.cell_texts.push_elements.Given as goal
 
 -- the elements so far were written
 abbrev pub invariant-loop-place : goal.invariant-loop-place
-invariant-loop-place l = l.text.items ≡ l.fn.text.items ++ comma_list (take l.place (element_texts l.skeleton l.tuples l.cell))
+invariant-loop-place l = l.text.items ≡ l.fn.text.items ++ comma_list (take l.place (element_texts l.pids l.skeleton l.tuples l.cell))

@@ -12,7 +12,7 @@ appended (Err y) new whole before is = tt
 
 pub returns-in-Some : goal.returns-in-Some
 returns-in-Some c =
-    let f = inner_text c.args.skeleton.now c.args.tuples.now in
+    let f = inner_text c.args.pids c.args.skeleton.now c.args.tuples.now in
     subst (λ (l : List ℕ). OnOk c.extend_from_slice.result (c.extend_from_slice.new.self.items ≡ c.args.text.now.items ++ l))
     (found-image f c.args.tuples.now.cells c.args.cell c.in-Some.place c.args.inner.now c.get.result.now c.in-Some.ensures.value c.requires.inner c.get.ensures)
     (appended c.extend_from_slice.result c.extend_from_slice.new.self.items (c.args.text.now.items ++ c.get.result.now) c.args.text.now.items c.extend_from_slice.ensures.items)

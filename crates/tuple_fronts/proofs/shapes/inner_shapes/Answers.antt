@@ -1,4 +1,4 @@
-use Rattle.std.proofs.Common.{◌≡◌, ◌∙◌, ap, subst, length}
+use Rattle.std.proofs.Common.{◌≡◌, ◌∙◌, ap, subst, false, length}
 use Rattle.std.specs.List.Sorted.{IsStrictlyIncreasing}
 use Rattle.std.proofs.lemmas.List.{length-map}
 use Rattle.tuple_fronts.specs.Inner.CellTexts.{inner_text}
@@ -8,7 +8,7 @@ use Rattle.tuple_fronts.proofs.shapes.inner_shapes.Goals as goal
 pub returns-clause-count : goal.returns-clause-count
 returns-clause-count g c =
     let t = c.in_ok-tuples.tuples in
-    ap length c.in_ok-shapes.ensures ∙ length-map t.cells (inner_text c.args.skeleton.now t) ∙ ap length c.in_ok-tuples.ensures.cells
+    ap length c.in_ok-shapes.ensures ∙ length-map t.cells (inner_text false c.args.skeleton.now t) ∙ ap length c.in_ok-tuples.ensures.cells
 
 pub returns-clause-shapes : goal.returns-clause-shapes
 returns-clause-shapes g c = λ dump is.

@@ -1,12 +1,13 @@
-use Rattle.std.proofs.Common.{◌∙◌, ap, arith, rules, Bool, List, None, ℕ}
+use Rattle.std.proofs.Common.{◌++◌, ◌∙◌, ◌∷◌, [], ap, ap₂, arith, rules, Bool, List, None, ℕ}
 use Rattle.std.specs.Option.{option_to_list}
 use Rattle.dump_sections.specs.Bodies.{body_in, body_size, body_start}
-use Rattle.dump_sections.specs.Index.{sections_in}
+use Rattle.dump_sections.specs.Index.{index_of, sections_in}
 use Rattle.dump_sections.specs.Sections.{Section}
 use Rattle.root_views.specs.Shown.{shown_roots}
 use Rattle.root_views.specs.Kinds.{roots_in}
 use Rattle.root_views.specs.Sections.{root_section}
 use Rattle.root_views.specs.declared.kinds.RootKind.{RootKind}
+use Rattle.term_text.specs.Cuts.{cut_report}
 use Rattle.term_text.specs.Reach.{root_elements}
 use Rattle.term_text.specs.Roots.{answer_over, some_roots_report}
 use Rattle.term_unfold.specs.Walks.{Walk}
@@ -26,7 +27,8 @@ body kind pid ss = option_to_list (root_section kind pid ss)
 -- the report on some roots, over what a walker goes
 abbrev text : RootKind → List ℕ → ℕ → ℕ → ℕ → Bool → List ℕ → Walk → List ℕ
 text kind pid first count nodes marked bytes walk =
-    let part = part_in (root_section kind pid) bytes in some_roots_report (answer_over walk nodes marked) part.base first count (roots_in kind part.bytes)
+    let part = part_in (root_section kind pid) bytes in
+    some_roots_report (answer_over walk nodes marked) part.base first count (roots_in kind part.bytes) ++ cut_report (index_of bytes) pid (kind ∷ [])
 
 pub returns-in_err-find_process-clause-reads : goal.returns-in_err-find_process-clause-reads
 returns-in_err-find_process-clause-reads g c =
@@ -74,8 +76,8 @@ returns-clause-reads g c =
     let roots = c.in_ok-roots.ensures in
     HasRead-behind t.pid.now (body t.kind t.pid.now) None (text t.kind t.pid.now t.first t.count t.nodes t.marked) at.limits.now at.index.now before rooted
     c.in_ok-find_process.ensures.judges _ roots.reads (omega (arith, here, one)) (root_elements c.in_ok-roots.roots.shown) t.nodes after c.in_ok-part.part _ c.in_ok-part.ensures.gives
-    (λ bytes all answers.
-    peeked-told t.kind t.pid.now bytes t.first t.count t.nodes t.marked at.index.now (walk_in c.in_ok-part.part) c.in_ok-roots.base c.in_ok-roots.roots all.is
+    (λ bytes all answers. ap₂ (λ text index. text ++ cut_report index t.pid.now (t.kind ∷ []))
+    (peeked-told t.kind t.pid.now bytes t.first t.count t.nodes t.marked at.index.now (walk_in c.in_ok-part.part) c.in_ok-roots.base c.in_ok-roots.roots all.is
     (roots.roots.base ∙ ap body_start section)
     (roots.roots.shown bytes all.opened ∙ ap (λ s. shown_roots t.kind t.first t.count (body_in bytes s)) section)
-    (λ e inside. answers e inside t.marked))
+    (λ e inside. answers e inside t.marked)) all.is)
