@@ -1,4 +1,3 @@
-mod Eaches
 mod Hearings
 mod Places
 mod Readings

@@ -4,7 +4,7 @@
 //! caller makes once, and lets a [`LineSink`] hear each line, however long the part is and however the pieces cut its
 //! lines. What the sink hears of a line is its offset, as many of its first bytes as it keeps, and how many bytes it has.
 //! The buffer is all the memory that this takes. A `LineSink` hears runs of whole lines, as bytes with their offset, so
-//! that it may search a run for what it needs; [`ByLine`] makes one of an [`EachLine`], which hears the lines one by one.
+//! that it may search a run for what it needs.
 //!
 //! Where lines are needed whole, [`hear_whole_lines`] reads in the same pieces, and lets a [`WholeLineSink`] hear runs
 //! of them; its buffer grows to hold the longest line.
@@ -18,7 +18,6 @@
 //! ```
 #![tactic(auto)]
 
-mod each_line;
 mod faults;
 mod heard_body;
 mod line_sink;
@@ -27,7 +26,6 @@ mod starts;
 mod whole_lines;
 mod whole_sink;
 
-pub use each_line::{ByLine, EachLine};
 pub use faults::{LinesFault, WholeLinesFault};
 pub use heard_body::{hear_body, make_buffer};
 pub use line_sink::LineSink;

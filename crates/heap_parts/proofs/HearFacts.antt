@@ -1,15 +1,17 @@
 -- What is heard of lines has the addresses and offsets of the heap lines.
-use Rattle.std.proofs.Common.{◌≡◌, ◌⊎◌, ℕ, suc, ◌+◌, ◌-◌, ◌<◌, ◌==◌, nat_eq, Bool, true, false, not, ◌||◌, cond, if◌then◌else◌, List, [], ◌∷◌, ◌++◌, length, take, drop, map, Option, None, Some, refl, sym, ◌∙◌, ap, ap₂, append_assoc, append-nil, take-append-drop, arith}
-use Rattle.std.specs.Prelude.{find}
+use Rattle.std.proofs.Common.{◌≡◌, ◌⊎◌, ℕ, suc, ◌+◌, ◌-◌, ◌<◌, ◌≤◌, ◌==◌, nat_eq, Bool, true, false, not, ◌||◌, cond, if◌then◌else◌, List, [], ◌∷◌, ◌++◌, length, take, drop, map, min, take-take, Option, None, Some, refl, sym, ◌∙◌, ap, ap₂, append_assoc, append-nil, take-append-drop, arith}
+use Rattle.std.specs.Prelude.{find, Result, Ok, Err, IfErr}
+use Rattle.std.specs.declared.alloc.AllocError.{AllocError}
 use Rattle.std.specs.List.{filter_map, cons_option, ends_with, position_or_len}
 use Rattle.std.specs.Option.{option_map, option_and_then}
 use Rattle.std.specs.Ordering.{is_eq, nat_cmp}
 use Rattle.std.proofs.lemmas.Bool.{cases_order, false≢true}
 use Rattle.std.proofs.lemmas.Bool.Decides.{nat_tests}
+use Rattle.std.proofs.lemmas.List.{length-take-le, take_min}
 use Rattle.std.proofs.lemmas.List.Elements.{filter_map-append}
 use Rattle.std.proofs.lemmas.List.Folds.{list_any-append}
-use Rattle.body_lines.specs.Hearing.{Hears}
-use Rattle.body_lines.specs.Lines.{CutLine, cut, cut_lines}
+use Rattle.body_lines.specs.Hearing.{Hears, StopsAmong}
+use Rattle.body_lines.specs.Lines.{CutLine, cut, cut_lines, one_line}
 use Rattle.dump_io.specs.Colons.{is_colon, has_colon, before_colon, after_colon}
 use Rattle.dump_io.specs.Laws.Texts.{bytes_eq-same}
 use Rattle.dump_io.specs.Lines.{cr, lf, lines_from, raw_lines, text_of}
@@ -115,31 +117,49 @@ module _ (found : (text rest : List ℕ) (n : ℕ) → led_of (take 17 text) ≡
       ap (λ n. heard_places (map (cut 17) (lines_from n (raw_lines body)))) start ∙ lines-heard base 0 (raw_lines body)
 
   -- a sink that had nothing has them all
-  pub all-heard : {S : Type 0} (new : S) (part : S → AddressSink) {old : S} (base : ℕ) (body : List ℕ) (lines : List CutLine)
-      → Hears (λ one other heard. TakesPlaces (part one) (part other) heard) old new lines → (part old).lines.items ≡ [] → lines ≡ cut_lines 17 base body
-      → (part new).lines.items ≡ placed_lines base body
-  all-heard new part {old = old} base body lines heard empty are =
-      (heard.later old [] (record { taken = sym (append-nil (part old).lines.items) })).taken
+  pub all-heard : (old new : AddressSink) (base : ℕ) (body : List ℕ) (lines : List CutLine)
+      → Hears TakesPlaces old new lines → old.lines.items ≡ [] → lines ≡ cut_lines 17 base body → new.lines.items ≡ placed_lines base body
+  all-heard old new base body lines heard empty are =
+      (heard.later old [] (record { taken = sym (append-nil old.lines.items) })).taken
       ∙ ap (λ l. l ++ heard_places lines) empty ∙ ap heard_places are ∙ body-heard base body
 
--- ---- one more line
+-- ---- some lines more
 
-pub one-heard : (at : ℕ) (front : List ℕ) (size address : ℕ) (rest : List ℕ) → led_of front ≡ Some (address, rest)
-    → heard_places (record { at = at; front = front; size = size } ∷ []) ≡ (address, at) ∷ []
-one-heard at front size address rest is = ap (λ o. cons_option (option_map {U = ℕ × ℕ} (λ (led : ℕ × List ℕ). (led.0, at)) o) []) is
+pub one-heard : (at : ℕ) (front : List ℕ) (address : ℕ) (rest : List ℕ) (size : ℕ) → led_of front ≡ Some (address, rest) → heard_places (one_line at front size) ≡ (address, at) ∷ []
+one-heard at front address rest size is = ap (λ o. cons_option (option_map {U = ℕ × ℕ} (λ (led : ℕ × List ℕ). (led.0, at)) o) []) is
 
-pub none-heard : (at : ℕ) (front : List ℕ) (size : ℕ) → led_of front ≡ None → heard_places (record { at = at; front = front; size = size } ∷ []) ≡ []
+pub none-heard : (at : ℕ) (front : List ℕ) (size : ℕ) → led_of front ≡ None → heard_places (one_line at front size) ≡ []
 none-heard at front size is = ap (λ o. cons_option (option_map {U = ℕ × ℕ} (λ (led : ℕ × List ℕ). (led.0, at)) o) []) is
 
-pub hears-line : (old new : AddressSink) (line : CutLine) → new.lines.items ≡ old.lines.items ++ heard_places (line ∷ []) → Hears TakesPlaces old new (line ∷ [])
-hears-line old new line is = record {
+-- the first line of a run, and the others behind it
+pub first-heard : (old new : List (ℕ × ℕ)) (at : ℕ) (run : List ℕ) (n m : ℕ) → n ≤ length run → raw_lines run ≡ take n run ∷ raw_lines (drop n run) → m ≡ min n 17
+    → new ≡ old ++ heard_places (one_line at (take m run) n) → new ++ heard_places (cut_lines 17 (at + n) (drop n run)) ≡ old ++ heard_places (cut_lines 17 at run)
+first-heard old new at run n m within first few heard =
+    let line = take n run in
+    let size : length line ≡ n = length-take-le n run within in
+    let count : m ≡ min 17 (length line) = omega (arith, few, size) in
+    let front : take m run ≡ take 17 line = sym (take-take m n run (omega (arith, few))) ∙ ap (λ k. take k line) count ∙ take_min 17 line in
+    let others = cut_lines 17 (at + n) (drop n run) in
+    ap (λ l. l ++ heard_places others) heard ∙ append_assoc old (heard_places (one_line at (take m run) n)) (heard_places others)
+    ∙ ap (λ l. old ++ l) (sym (filter_map-append heard_place (one_line at (take m run) n) others)
+    ∙ ap (λ f. heard_places (one_line at f n ++ others)) front
+    ∙ ap (λ k. heard_places (one_line at (take 17 line) k ++ cut_lines 17 (at + k) (drop n run))) (sym size)
+    ∙ ap (λ l. heard_places (map (cut 17) (lines_from at l))) (sym first))
+
+pub hears-lines : (old new : AddressSink) (lines : List CutLine) → new.lines.items ≡ old.lines.items ++ heard_places lines → Hears TakesPlaces old new lines
+hears-lines old new lines is = record {
   later = λ first earlier before. record {
     taken =
-        is ∙ ap (λ l. l ++ heard_places (line ∷ [])) before.taken
-        ∙ append_assoc first.lines.items (heard_places earlier) (heard_places (line ∷ []))
-        ∙ ap (λ l. first.lines.items ++ l) (sym (filter_map-append heard_place earlier (line ∷ [])));
+        is ∙ ap (λ l. l ++ heard_places lines) before.taken
+        ∙ append_assoc first.lines.items (heard_places earlier) (heard_places lines)
+        ∙ ap (λ l. first.lines.items ++ l) (sym (filter_map-append heard_place earlier lines));
   };
 }
+
+-- it stopped for want of memory, whatever it had heard
+pub stops-any : {V : Type 0} (old new : AddressSink) (lines : List CutLine) (result : Result V AllocError) → IfErr result (StopsAmong TakesPlaces (λ _ _ _ _. Unit {0}) old new lines)
+stops-any old new lines (Ok x) = tt
+stops-any old new lines (Err stop) = record { heard = []; rest = lines; parts = refl; stopped = record { later = λ first earlier heard. tt } }
 
 -- ---- the table
 

@@ -1,8 +1,10 @@
 // Hearing where the heap lines of a body begin.
-ghost use Rattle.std.specs.Prelude.{◌≡◌};
-ghost use Rattle.heap_parts.specs.Inner.Hearing.{TakesPlaces};
+ghost use Rattle.std.specs.Prelude.{◌≡◌, ℕ, ◌+◌, ◌++◌, ◌<◌, ◌≤◌, length, drop, OnOk, IfOk};
+ghost use Rattle.body_lines.specs.Lines.{cut_lines, one_line};
+ghost use Rattle.heap_parts.specs.Inner.Hearing.{heard_places, TakesPlaces};
 
-use body_lines::EachLine;
+use body_lines::LineSink;
+use dump_io::line_len;
 use std::alloc::AllocError;
 use term_forms::heap_line;
 
@@ -15,7 +17,34 @@ pub(crate) struct AddressSink {
     pub lines: Vec<(u64, usize)>,
 }
 
-impl EachLine for AddressSink {
+impl AddressSink {
+    // Hears a line with these first bytes.
+    fn line(&mut self, at: u64, front: &[u8]) -> Result<(), AllocError>
+        ensures { OnOk result ((size : ℕ) → self.new.lines.items
+            ≡ self.old.lines.items ++ heard_places (one_line at front.now size)) }
+    {
+        if let Some((address, _)) = heap_line(front) {
+            self.lines.push((address, at as usize))?;
+        }
+        Ok(())
+    }
+
+    // Hears the first line of a run, and returns how many bytes it has.
+    fn first_line(&mut self, at: u64, run: &[u8]) -> Result<usize, AllocError>
+        requires { 0 < length run.now }
+        ensures within { IfOk result (λ n. (0 < n) × (n ≤ length run.now)) }
+        ensures heard { IfOk result (λ n.
+            self.new.lines.items ++ heard_places (cut_lines 17 (at + n) (drop n run.now))
+            ≡ self.old.lines.items ++ heard_places (cut_lines 17 at run.now)) }
+    {
+        let size = line_len(run);
+        let front = size.min(KEPT as usize);
+        self.line(at, &run[..front])?;
+        Ok(size)
+    }
+}
+
+impl LineSink for AddressSink {
     type Stop = AllocError;
 
     ghost kept = { 17 };
@@ -32,10 +61,15 @@ impl EachLine for AddressSink {
         KEPT
     }
 
-    fn line(&mut self, at: u64, front: &[u8], size: u64) -> Result<(), AllocError> {
-        if let Some((address, _)) = heap_line(front) {
-            self.lines.push((address, at as usize))?;
+    fn lines(&mut self, at: u64, run: &[u8]) -> Result<(), AllocError> {
+        let mut done = 0;
+        while done < run.len() {
+            done += self.first_line(at + done as u64, &run[done..])?;
         }
         Ok(())
+    }
+
+    fn long_line(&mut self, at: u64, front: &[u8], _size: u64) -> Result<(), AllocError> {
+        self.line(at, front)
     }
 }

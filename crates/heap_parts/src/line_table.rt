@@ -9,7 +9,7 @@ ghost use Rattle.heap_cells.specs.Places.{placed_lines};
 ghost use Rattle.heap_parts.specs.Tables.{IsTableOf};
 
 use crate::address_sink::AddressSink;
-use body_lines::{ByLine, LinesFault, hear_body, make_buffer};
+use body_lines::{LinesFault, hear_body, make_buffer};
 use dump_io::{Dumps, ReadFault};
 use dump_sections::FirstPlaces;
 use std::alloc::Global;
@@ -32,12 +32,12 @@ fn hear_lines<D: Dumps>(
         lines.items ≡ placed_lines from (between from upto dump))) }
 {
     number_is_in_front();
-    let mut buffer = make_buffer::<ByLine<AddressSink>>(alloc)?;
-    let mut sink = ByLine(AddressSink {
+    let mut buffer = make_buffer::<AddressSink>(alloc)?;
+    let mut sink = AddressSink {
         lines: Vec::new(alloc),
-    });
+    };
     match hear_body(dumps, from, upto, &mut buffer, &mut sink) {
-        Ok(()) => Ok(sink.0.lines),
+        Ok(()) => Ok(sink.lines),
         Err(LinesFault::Read) => Err(ReadFault::Read),
         Err(LinesFault::Stopped(_)) => Err(ReadFault::Memory),
     }

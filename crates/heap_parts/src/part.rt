@@ -1,8 +1,8 @@
 // Loading a part of a heap that is enough for some roots.
 ghost use Rattle.std.specs.Prelude.{◌≡◌, [], List, ◌+◌, ◌*◌, ◌<◌, ◌≤◌, length, map, min, false, IfOk, IfErr, OnOk};
-ghost use Rattle.dump_io.specs.Dumps.{Now, ReadsAtMost};
+ghost use Rattle.dump_io.specs.Dumps.{ReadsAtMost};
 ghost use Rattle.dump_io.specs.Faults.{IsReadCauseOf};
-ghost use Rattle.heap_cells.specs.Cells.{Cell, line_cells};
+ghost use Rattle.heap_cells.specs.Cells.{Cell};
 ghost use Rattle.term_forms.specs.Seen.{element};
 ghost use Rattle.heap_cells.specs.Loading.{IsHeapAnswerFor};
 ghost use Rattle.heap_parts.specs.Inner.Growing.{FindsNoGap, Grows, MayGather, ReadsLines};

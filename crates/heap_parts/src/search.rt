@@ -1,5 +1,5 @@
 // Gathering the lines that a root needs: the walk that unfolds it, over lines that are gathered as it comes to them.
-ghost use Rattle.std.specs.Prelude.{◌≡◌, OnOk, IfErr};
+ghost use Rattle.std.specs.Prelude.{OnOk, IfErr};
 ghost use Rattle.dump_io.specs.Faults.{IsReadCauseOf};
 ghost use Rattle.heap_parts.specs.Inner.Growing.{Grows, MayGather, ReadsLines};
 
@@ -300,24 +300,6 @@ fn visit_all<D: Dumps>(
     Ok(())
 }
 
-// Gathers what the first nodes of a root need whose line was gathered.
-fn gather_from<D: Dumps>(
-    from: &Source<'_>,
-    dumps: &mut D,
-    line: usize,
-    g: &mut Gathered,
-    search: &mut Search,
-) -> Result<(), ReadFault>
-    requires { MayGather from.now (D.state dumps.old).now g.old.lines.items }
-    ensures reads { ReadsLines (D.state dumps.old) (D.state dumps.new) from.now.bytes g.old.lines.items }
-    ensures fault { IfErr result (IsReadCauseOf (D.state dumps.old) (D.state dumps.new)) }
-    ensures grows { OnOk result (Grows from.now (D.state dumps.old) (D.state dumps.new)
-        g.old.lines.items g.new.lines.items) }
-{
-    open_line(from, dumps, line, false, g, search)?;
-    visit_all(from, dumps, g, search)
-}
-
 /// Gathers the lines that the first nodes of a root need. The search is in no line before and after it.
 pub(crate) fn gather_root<D: Dumps>(
     from: &Source<'_>,
@@ -338,7 +320,8 @@ pub(crate) fn gather_root<D: Dumps>(
     let Some(line) = line_of(from, dumps, *addr, g)? else {
         return Ok(());
     };
-    gather_from(from, dumps, line, g, search)?;
+    open_line(from, dumps, line, false, g, search)?;
+    visit_all(from, dumps, g, search)?;
     search.clear();
     Ok(())
 }

@@ -9,8 +9,6 @@ ghost use Rattle.term_unfold.specs.Text.{show};
 ghost use Rattle.term_unfold.specs.Trees.{Value, Tree, Trees};
 ghost use Rattle.term_unfold.specs.Unfolding.{unfolded};
 
-use crate::node::NodeKind;
-
 /// The unfolding follows the rules without a bound on levels; more levels than there are
 /// cells change nothing; a term unfolds to a term, and a child of a hash map to an item.
 pub fn unfolding_is_finite()

@@ -1,7 +1,6 @@
 -- Hearing the lines of a piece.
-use Rattle.std.specs.Prelude.{◌≡◌, ℕ, ◌+◌, ◌-◌, List, ◌∷◌, ◌++◌, length, take, drop, min}
-use Rattle.dump_io.specs.Lines.{raw_lines}
-use Rattle.body_lines.specs.Lines.{CutLine, one_line, AreWhole, HasNoLf}
+use Rattle.std.specs.Prelude.{◌≡◌, ℕ, ◌+◌, ◌-◌, List, ◌++◌, length, take, drop, min}
+use Rattle.body_lines.specs.Lines.{AreWhole, HasNoLf}
 use Rattle.body_lines.specs.Hearing.{Hears, Stops, StopsAmong}
 
 -- these bytes were read of the line in which a piece ended, from the offset of the line
@@ -57,8 +56,3 @@ abbrev pub StopsAtOpen : {S L T : Type 0} → (S → S → List L → Type 0) �
 StopsAtOpen hears stops lines_of old new kept line upto buffer stop =
     (front : List ℕ) → IsOpenLine kept line upto (take (min kept (upto - line)) buffer) front
     → StopsAmong hears stops old new (lines_of line front) stop
-
--- the first line of a run was heard, which has n bytes
-pub record HearsFirst {S : Type 0} (hears : S → S → List CutLine → Type 0) (old new : S) (kept at : ℕ) (run : List ℕ) (n : ℕ) : Type 0 where
-  pub whole : raw_lines run ≡ take n run ∷ raw_lines (drop n run)
-  pub heard : Hears hears old new (one_line at (take kept (take n run)) n)

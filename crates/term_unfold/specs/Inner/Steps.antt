@@ -1,5 +1,5 @@
 -- How far a call has come in a text that is written in steps.
-use Rattle.std.specs.Prelude.{◌≡◌, ℕ, ◌+◌, ◌*◌, ◌<◌, ◌≤◌, List, ◌++◌, length, Result, Ok, Err, MatchResult, IfOk, OnErr}
+use Rattle.std.specs.Prelude.{ℕ, ◌+◌, ◌*◌, ◌<◌, ◌≤◌, List, length, Result, Ok, Err, MatchResult, IfOk, OnErr}
 use Rattle.dump_io.specs.Sinks.{SinkState, SinkFailed, GainedFront, HasPutPart}
 use Rattle.term_unfold.specs.declared.path.Entry.{Entry}
 
