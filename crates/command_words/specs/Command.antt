@@ -10,7 +10,7 @@ use Rattle.table_sections.specs.declared.kinds.TableKind.TheVariants as kinds
 use Rattle.command_words.specs.declared.words.Cmd.{Cmd}
 use Rattle.command_words.specs.declared.words.Cmd.TheVariants.{On, Make, Trial}
 use Rattle.command_words.specs.declared.words.Query.{Query}
-use Rattle.command_words.specs.declared.words.Query.TheVariants.{Index, Info, Procs, Proc, Memory, Field, Table, Roots, Term, PeekTerm, PeekRoots, Ext, Reach, Shapes, Weigh, WeighCell, Cells, Binary, Binaries, Holders, Triage, Stacks, Links, Redact, Audit, AuditJson}
+use Rattle.command_words.specs.declared.words.Query.TheVariants.{Index, Info, Procs, Proc, Memory, Field, Table, Roots, Term, PeekTerm, PeekRoots, Ext, Reach, Shapes, Weigh, WeighCell, Cells, Binary, Binaries, Holders, Triage, Stacks, Links, Redact, Audit, AuditJson, AuditSettled}
 use Rattle.command_words.specs.Budgets.{budget_of}
 use Rattle.command_words.specs.Ranges.{number_upto}
 
@@ -62,6 +62,8 @@ pub data Ask : Type 0 where
   audit : ℕ → Bool → Ask
   -- the same as one JSON text
   audit_json : ℕ → Bool → Ask
+  -- such an audit without the findings that are in flight
+  audit_settled : ℕ → Bool → Ask
 
 -- a command
 pub data Command : Type 0 where
@@ -100,6 +102,7 @@ shown_query Links = links
 shown_query Redact = redact
 shown_query (Audit limit full) = audit limit full
 shown_query (AuditJson limit full) = audit_json limit full
+shown_query (AuditSettled limit full) = audit_settled limit full
 
 -- the value of a command
 abbrev pub shown_command : Cmd → Command
@@ -176,7 +179,7 @@ full_of [] = Some false
 full_of (word ∷ []) = if bytes_eq word (codes "full") then Some true else None
 full_of words = None
 
--- an audit with a limit, which is decimal, in one of the two forms
+-- an audit with a limit, which is decimal, in one of its forms
 abbrev pub audit_query : (ℕ → Bool → Ask) → List ℕ → List (List ℕ) → Option Ask
 audit_query form limit words = option_and_then (λ n. option_map (form n) (full_of words)) (dec_number limit)
 
@@ -192,7 +195,8 @@ process_query name word words =
     else (if bytes_eq name (codes "weigh") then weigh_query word words
     else (if bytes_eq name (codes "ext") then ext_query word words
     else (if bytes_eq name (codes "audit") then audit_query audit word words
-    else (if bytes_eq name (codes "audit-json") then audit_query audit_json word words else None)))))))))
+    else (if bytes_eq name (codes "audit-json") then audit_query audit_json word words
+    else (if bytes_eq name (codes "audit-settled") then audit_query audit_settled word words else None))))))))))
 
 -- what a command asks with another word
 abbrev pub word_query : List ℕ → List ℕ → Option Ask

@@ -2,7 +2,7 @@
 ghost use Rattle.std.specs.Prelude.{◌≡◌, ◌<◌, ℕ, Bool, [], List, map, option_map};
 ghost use Rattle.std.specs.Option.{IfSome};
 ghost use Rattle.std.specs.String.{string_bytes};
-ghost use Rattle.command_words.specs.Command.{Ask, audit, audit_json, audit_query, binary, command, ext_query, full_of, holders, on, peek_query, peek_term, plain_query, process_query, roots_query, shapes_query, shown_command, shown_query, some_roots_query, stacks, term, term_query, triage, weigh_query, word_command, word_query, IsAskInRange, IsInRange};
+ghost use Rattle.command_words.specs.Command.{Ask, audit, audit_json, audit_query, audit_settled, binary, command, ext_query, full_of, holders, on, peek_query, peek_term, plain_query, process_query, roots_query, shapes_query, shown_command, shown_query, some_roots_query, stacks, term, term_query, triage, weigh_query, word_command, word_query, IsAskInRange, IsInRange};
 ghost use Rattle.command_words.specs.Ranges.{number_upto};
 ghost use Rattle.dump_io.specs.Numbers.{hex_number};
 
@@ -157,6 +157,12 @@ pub enum Query<'a> {
         limit: u64,
         full: bool,
     },
+    /// `audit-settled FILE LIMIT [full]`: the findings of such an audit that no
+    /// signal in flight explains, and how many it does.
+    AuditSettled {
+        limit: u64,
+        full: bool,
+    },
 }
 
 /// The command that the words after the program's name are. Returns `None` exactly when they are no command.
@@ -292,6 +298,7 @@ fn process_query<'a>(name: &str, word: &'a str, words: &[String]) -> Option<Quer
         "ext" => ext_query(word, words),
         "audit" => audit_query(word, words),
         "audit-json" => audit_json_query(word, words),
+        "audit-settled" => audit_settled_query(word, words),
         _ => None,
     }
 }
@@ -476,4 +483,14 @@ fn audit_json_query<'a>(limit: &str, words: &[String]) -> Option<Query<'a>>
     let limit = dec_u64(limit.as_bytes())?;
     let full = full_of(words)?;
     Some(Query::AuditJson { limit, full })
+}
+
+fn audit_settled_query<'a>(limit: &str, words: &[String]) -> Option<Query<'a>>
+    ensures reads { option_map shown_query result
+        ≡ audit_query audit_settled limit.now (map string_bytes words.now) }
+    ensures range { IfSome result (λ query. IsAskInRange (shown_query query)) }
+{
+    let limit = dec_u64(limit.as_bytes())?;
+    let full = full_of(words)?;
+    Some(Query::AuditSettled { limit, full })
 }

@@ -16,8 +16,8 @@ use stream_commands::{
     run_binaries, run_holders, run_redact, run_shapes, run_stacks, run_weigh, run_weigh_cell,
 };
 use table_commands::{
-    run_audit, run_audit_json, run_field, run_index, run_info, run_links, run_make, run_memory,
-    run_proc, run_procs, run_table, run_triage, run_trial,
+    run_audit, run_audit_json, run_audit_settled, run_field, run_index, run_info, run_links,
+    run_make, run_memory, run_proc, run_procs, run_table, run_triage, run_trial,
 };
 
 /// Runs a command from a device to the sink of its report, and returns its status.
@@ -123,5 +123,6 @@ fn run_query<D: Dumps, K: Sink>(
         Query::Redact => run_redact(dump, dumps, out),
         Query::Audit { limit, full } => run_audit(dump, limit, full, dumps, out),
         Query::AuditJson { limit, full } => run_audit_json(dump, limit, full, dumps, out),
+        Query::AuditSettled { limit, full } => run_audit_settled(dump, limit, full, dumps, out),
     }
 }

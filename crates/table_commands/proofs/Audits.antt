@@ -13,8 +13,8 @@ use Rattle.dump_audit.specs.Audits.{audit_in}
 use Rattle.dump_audit.specs.declared.bodies.AuditBodies.{AuditBodies}
 use Rattle.dump_audit.specs.Bodies.{AreBodiesOf}
 use Rattle.dump_audit.specs.Mailboxes.{audited_sections, mail_in, mailbox_places}
-use Rattle.table_commands.specs.Rows.{of_audit}
-use Rattle.table_commands.specs.Inner.Loads.{loaded_audit}
+use Rattle.table_commands.specs.Rows.{audit_settled_row, of_audit, settled_in}
+use Rattle.table_commands.specs.Inner.Loads.{loaded_audit, loaded_settled}
 use Rattle.dump_questions.specs.Reading.{ReadsFor}
 use Rattle.dump_questions.specs.Stops.{or_stop}
 use Rattle.dump_questions.specs.Laws.Reading.{ReadsFor-bodies}
@@ -35,3 +35,16 @@ pub ReadsFor-audit : (limit : ℕ) (full : Bool) (show : Audit → List ℕ) (li
 ReadsFor-audit limit full show limits index state b c loaded loads are =
     ReadsFor-bodies (of_audit limit full show) limits index (record { there = refl; few = λ _. omega arith }) state b c (λ _. refl) (loaded_audit limit index) loaded loads
     (IfOk-weaker loaded _ _ (λ read are. λ bytes all. audit-told limit full bytes index read all.is (are bytes all.opened)) are)
+
+-- so is a settled one
+settled-told : (limit : ℕ) (full : Bool) (bytes : List ℕ) (index : Contents) (read : AuditBodies) → index ≡ index_of bytes → AreBodiesOf full index bytes read
+    → loaded_settled limit index read ≡ settled_in limit full bytes
+settled-told limit full bytes index read is of = λ i. record { audit = audit-told limit full bytes index read is of i; signalled = of.signalled i }
+
+pub ReadsFor-settled : (limit : ℕ) (full : Bool) (limits : Numbers) (index : Contents) {D : Type 0} (state : D → DeviceState) (b c : D) (loaded : Result AuditBodies BodyFault)
+    → LoadsBodies state (audited_sections full (sections_in index)) limits.section b c loaded
+    → IfOk loaded (λ read. (bytes : List ℕ) → (state b).now ≡ told bytes → AreBodiesOf full index bytes read)
+    → ReadsFor (audit_settled_row limit full) limits index (state b) (state c) (loaded_settled limit index) (or_stop loaded)
+ReadsFor-settled limit full limits index state b c loaded loads are =
+    ReadsFor-bodies (audit_settled_row limit full) limits index (record { there = refl; few = λ _. omega arith }) state b c (λ _. refl) (loaded_settled limit index) loaded loads
+    (IfOk-weaker loaded _ _ (λ read are. λ bytes all. settled-told limit full bytes index read all.is (are bytes all.opened)) are)

@@ -1,10 +1,11 @@
 -- The text of the report of an audit. Offsets are of the file.
-use Rattle.std.specs.Prelude.{ℕ, List, [], ◌∷◌, ◌++◌, length, decimal, codes}
+use Rattle.std.specs.Prelude.{ℕ, Bool, List, [], ◌∷◌, ◌++◌, length, decimal, codes}
 use Rattle.std.specs.List.{flat_map}
 use Rattle.dump_sections.specs.Index.{Contents, sections_in, dump_state}
 use Rattle.process_table.specs.Processes.{Process}
 use Rattle.dump_audit.specs.FindingViews.{Named, Nothing, Partner, Monitor, Count, Counts, View, view_of}
 use Rattle.dump_audit.specs.Findings.{Audit, findings}
+use Rattle.dump_audit.specs.Flight.{in_flight, settled}
 use Rattle.dump_audit.specs.declared.finding.Finding.{Finding}
 use Rattle.report_lines.specs.Lines.{line_of, word_space, total_line}
 use Rattle.report_lines.specs.States.{state_line}
@@ -33,3 +34,24 @@ findings_report index processes found =
 -- the report of `audit`
 abbrev pub audit_report : Audit → List ℕ
 audit_report a = findings_report a.index a.processes (findings a)
+
+-- an audit, and for each of its processes whether signals wait for it
+pub record SettledAudit : Type 0 where
+  pub audit : Audit
+  pub signalled : List Bool
+
+-- its findings that aren't in flight
+abbrev pub settled_findings : SettledAudit → List Finding
+settled_findings a = settled a.signalled (findings a.audit)
+
+-- the report of some findings beside which there are so many in flight: their lines, both numbers, and the state
+abbrev pub settled_lines : Contents → List Process → List Finding → ℕ → List ℕ
+settled_lines index processes found others =
+    flat_map (finding_line processes) found
+    ++ (total_line (codes "findings") (length found)
+    ++ (total_line (codes "in-flight") others ++ state_line (sections_in index) (dump_state index.headers)))
+
+-- the report of `audit-settled`
+abbrev pub settled_report : SettledAudit → List ℕ
+settled_report a =
+    settled_lines a.audit.index a.audit.processes (settled_findings a) (length (in_flight a.signalled (findings a.audit)))

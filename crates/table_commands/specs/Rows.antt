@@ -24,8 +24,9 @@ use Rattle.table_sections.specs.declared.kinds.TableKind.TheVariants.{Ets}
 use Rattle.table_sections.specs.Tables.{listed, table_of}
 use Rattle.dump_audit.specs.Audits.{audit_in}
 use Rattle.dump_audit.specs.Mailboxes.{audited_sections}
-use Rattle.table_commands.specs.Findings.{audit_report}
+use Rattle.table_commands.specs.Findings.{audit_report, settled_findings, settled_report, SettledAudit}
 use Rattle.dump_audit.specs.Findings.{findings, Audit}
+use Rattle.dump_audit.specs.Flight.{signalled_in}
 use Rattle.json_report.specs.Trees.{audit_tree, json_text}
 
 -- the first section, the first one on memory, those of the processes and those of the ETS tables
@@ -103,6 +104,14 @@ links_row = of_bodies record_sections process_table (λ table. links_report tabl
 -- the lines of an audit with this limit on message queues, in full or not
 abbrev pub audit_row : ℕ → Bool → Meaning
 audit_row limit full = of_audit limit full audit_report
+
+-- what an audit of the dump with these bytes is on, with the signals that wait in it
+abbrev pub settled_in : ℕ → Bool → List ℕ → SettledAudit
+settled_in limit full bytes = record { audit = audit_in limit full bytes; signalled = signalled_in bytes }
+
+-- the lines of such an audit without the findings that are in flight
+abbrev pub audit_settled_row : ℕ → Bool → Meaning
+audit_settled_row limit full = record (of_bodies (audited_sections full) (settled_in limit full) settled_report) { found = Some settled_findings }
 
 -- such an audit as one JSON text
 abbrev pub audit_json_row : ℕ → Bool → Meaning

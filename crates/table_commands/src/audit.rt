@@ -37,7 +37,7 @@ pub(super) fn find(
         IfOk result (λ found. found.items ≡ findings audited) }
     ensures fits { IfOk result (λ found. All (Fits loaded.now.procs.processes) found.items) }
 {
-    let AuditBodies { procs, mails } = loaded;
+    let AuditBodies { procs, mails, .. } = loaded;
     audit_with(at.alloc, at.index, procs, graph, limit, mails.as_deref())
 }
 

@@ -6,7 +6,7 @@ ghost use Rattle.link_graph.specs.Graph.{graph_of};
 ghost use Rattle.dump_audit.specs.FindingViews.{shown_view};
 ghost use Rattle.dump_audit.specs.Fitting.{Fits};
 ghost use Rattle.report_lines.specs.Lines.{line_of, word_space};
-ghost use Rattle.table_commands.specs.Findings.{finding_line, findings_report, view_parts};
+ghost use Rattle.table_commands.specs.Findings.{finding_line, findings_report, settled_lines, view_parts};
 
 use dump_audit::{Finding, FindingView, Named, view_of};
 use dump_io::{Failed, Piece, Sink};
@@ -91,5 +91,26 @@ pub fn put_findings<K: Sink>(
 {
     put_all(sink, procs, graph, findings)?;
     put_total_line(sink, b"findings", findings.len() as u64)?;
+    put_state(sink, index)
+}
+
+/// Writes the lines of findings, as [`put_findings`] does, and `findings N` with their number; then
+/// `in-flight K`, where K is the number of others that aren't told, and the state line.
+pub fn put_settled<K: Sink>(
+    sink: &mut K,
+    index: &Index,
+    procs: &Procs,
+    graph: &Graph<'_>,
+    findings: &[Finding],
+    others: u64,
+) -> Result<(), Failed>
+    requires graph { graph.now ≡ graph_of procs.now.processes }
+    requires fits { All (Fits procs.now.processes) findings.now }
+    ensures { Puts (K.state sink.old) (K.state sink.new)
+        (settled_lines index.now procs.now.processes findings.now others) result }
+{
+    put_all(sink, procs, graph, findings)?;
+    put_total_line(sink, b"findings", findings.len() as u64)?;
+    put_total_line(sink, b"in-flight", others)?;
     put_state(sink, index)
 }

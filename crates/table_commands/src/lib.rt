@@ -13,6 +13,7 @@
 mod audit;
 mod audit_json;
 mod audit_report;
+mod audit_settled;
 mod field;
 mod index;
 mod info;
@@ -27,7 +28,8 @@ mod trial;
 
 pub use audit::run_audit;
 pub use audit_json::run_audit_json;
-pub use audit_report::put_findings;
+pub use audit_report::{put_findings, put_settled};
+pub use audit_settled::run_audit_settled;
 pub use field::run_field;
 pub use index::run_index;
 pub use info::run_info;

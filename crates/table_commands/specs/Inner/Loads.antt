@@ -1,6 +1,7 @@
 -- From what the reports are written, and what is known of it.
 use Rattle.dump_questions.specs.Meaning.{memory_section}
 use Rattle.table_commands.specs.Rows.{Overview}
+use Rattle.table_commands.specs.Findings.{SettledAudit}
 use Rattle.table_commands.specs.Triage.{Told}
 use Rattle.std.specs.Prelude.{◌<◌, ◌≡◌, length, All, IfSome, List, Some, ℕ}
 use Rattle.dump_sections.specs.Index.{sections_in, Contents}
@@ -25,6 +26,10 @@ seen_overview index body = record { version = version_text index.version; index 
 -- what an audit is of, by the index and what was loaded
 abbrev pub loaded_audit : ℕ → Contents → AuditBodies → Audit
 loaded_audit limit index loaded = audit_of index loaded.procs.processes limit (option_map (λ counts. counts.items) loaded.mails)
+
+-- the same with the signals that wait
+abbrev pub loaded_settled : ℕ → Contents → AuditBodies → SettledAudit
+loaded_settled limit index loaded = record { audit = loaded_audit limit index loaded; signalled = loaded.signalled.items }
 
 -- what `triage` tells of a dump, by the index and what was loaded
 abbrev pub seen_triage : Contents → NodeTables → Told

@@ -80,3 +80,6 @@ returns-in-Audit g c = runs-asked (ap shown_query c.in-Audit.is) c.run_audit.ens
 
 pub returns-in-AuditJson : goal.returns-in-AuditJson
 returns-in-AuditJson g c = runs-asked (ap shown_query c.in-AuditJson.is) c.run_audit_json.ensures
+
+pub returns-in-AuditSettled : goal.returns-in-AuditSettled
+returns-in-AuditSettled g c = runs-asked (ap shown_query c.in-AuditSettled.is) c.run_audit_settled.ensures
