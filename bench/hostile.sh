@@ -51,6 +51,7 @@ try() {
     "FILE" | "FILE [N]") tell "$1" "$2" ;;
     "FILE PID") tell "$1" "$2" "<0.1.0>" ;;
     "FILE PID [N]") tell "$1" "$2" "<0.1.0>" 3 ;;
+    "FILE PID [N] [pids]") tell "$1" "$2" "<0.1.0>" 3 && tell "$1" "$2" "<0.1.0>" 3 pids ;;
     "FILE PID N ADDR") tell "$1" "$2" "<0.1.0>" 3 10 ;;
     "FILE PID [NODES] [marked]") tell "$1" "$2" "<0.1.0>" 1 ;;
     "FILE PID ADDR"*) tell "$1" "$2" "<0.1.0>" 10 ;;

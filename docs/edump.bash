@@ -68,6 +68,7 @@ _edump() {
             COMPREPLY=($(_edump_pids "${COMP_WORDS[2]}" "$quoting" | grep -F -- "$word"))
             ;;
         "[NODES]" | "[marked]") [ "$before" = marked ] || COMPREPLY=($(compgen -W "marked" -- "$word")) ;;
+        "[N]" | "[pids]") [[ " ${form[*]} " != *" [pids]"* || $before = pids ]] || COMPREPLY=($(compgen -W "pids" -- "$word")) ;;
         KIND) COMPREPLY=($(compgen -W "stack dict mail" -- "$word")) ;;
         "[full]") COMPREPLY=($(compgen -W "full" -- "$word")) ;;
     esac

@@ -103,10 +103,10 @@ impl Case {
     }
 
     /// Gives the case the words of `peek` that must leave the same: for `term`, and for all roots of `stack`, `dict`
-    /// and `mail`. Returns `false` if there are none. Where the case is refused `peek` may not be; it may take more,
-    /// and has the usual limits, since the lines that it gathers end in CR and LF.
+    /// and `mail`, of a dump that isn't truncated. Returns `false` if there are none. Where the case is refused `peek`
+    /// may not be; it may take more, and has the usual limits, since the lines that it gathers end in CR and LF.
     pub fn turn_to_peek(&mut self, alloc: Global) -> Result<bool, AllocError> {
-        if self.status != 0 {
+        if self.status != 0 || !has_end(&self.dump) {
             return Ok(false);
         }
         let Some(words) = peek_words(alloc, self.words.as_slice())? else {
@@ -206,6 +206,20 @@ impl Case {
             self.is_same_dump = false;
         }
     }
+}
+
+// Whether the last line of a dump that begins with `=` is that of its end.
+fn has_end(dump: &[u8]) -> bool {
+    let mut has_end = false;
+    let mut begins = true;
+    for i in 0..dump.len() {
+        let rest = dump.get(i..).unwrap_or(b"");
+        if begins && rest.starts_with(b"=") {
+            has_end = rest.starts_with(b"=end");
+        }
+        begins = rest.starts_with(b"\n");
+    }
+    has_end
 }
 
 // The words of `peek` that show what these words do, if there are any.

@@ -37,8 +37,8 @@ pub data Ask : Type 0 where
   ext : List ℕ → ℕ → Ask
   -- what the roots of the process with this pid reach
   reach : List ℕ → Ask
-  -- what kinds of messages the process with this pid has in its mailbox, at most this many of them
-  shapes : List ℕ → ℕ → Ask
+  -- what kinds of messages the process with this pid has in its mailbox, at most this many of them, with pids shown or not
+  shapes : List ℕ → ℕ → Bool → Ask
   -- what each of the cells alone holds to which the roots of the process with this pid refer, at most this many of them
   weigh : List ℕ → ℕ → Ask
   -- the same of the cells to which the elements of the cell at this address refer
@@ -89,7 +89,7 @@ shown_query (PeekTerm pid addr nodes marked) = peek_term pid.now addr nodes mark
 shown_query (PeekRoots kind pid first count nodes marked) = peek_roots kind pid.now first count nodes marked
 shown_query (Ext pid addr) = ext pid.now addr
 shown_query (Reach pid) = reach pid.now
-shown_query (Shapes pid count) = shapes pid.now count
+shown_query (Shapes pid count pids) = shapes pid.now count pids
 shown_query (Weigh pid count) = weigh pid.now count
 shown_query (WeighCell pid count addr) = weigh_cell pid.now count addr
 shown_query (Cells pid) = cells pid.now
@@ -159,10 +159,19 @@ abbrev pub ext_query : List ℕ → List (List ℕ) → Option Ask
 ext_query pid (addr ∷ []) = option_map (ext pid) (hex_number addr)
 ext_query pid words = None
 
--- kinds of messages, at most 10 or a number of them from 1 to 1,000
+-- whether a word is `pids`
+abbrev pub is_pids : List ℕ → Bool
+is_pids word = bytes_eq word (codes "pids")
+
+-- kinds of messages, at most as many as a word says, from 1 to 1,000, with pids shown or not
+abbrev pub counted_shapes : List ℕ → Bool → List ℕ → Option Ask
+counted_shapes pid pids word = option_map (λ n. shapes pid n pids) (number_upto 1000 word)
+
+-- kinds of messages: the last words are a number of them, which is 10 if it is left out, and then `pids` or nothing
 abbrev pub shapes_query : List ℕ → List (List ℕ) → Option Ask
-shapes_query pid [] = Some (shapes pid 10)
-shapes_query pid (count ∷ []) = option_map (shapes pid) (number_upto 1000 count)
+shapes_query pid [] = Some (shapes pid 10 false)
+shapes_query pid (word ∷ []) = if is_pids word then Some (shapes pid 10 true) else counted_shapes pid false word
+shapes_query pid (count ∷ last ∷ []) = if is_pids last then counted_shapes pid true count else None
 shapes_query pid words = None
 
 -- what parts of a heap hold: those of a process, at most 10 or a number of them
@@ -242,7 +251,7 @@ IsAskInRange (roots kind pid nodes marked) = 0 < nodes
 IsAskInRange (term pid addr nodes marked) = 0 < nodes
 IsAskInRange (peek_term pid addr nodes marked) = 0 < nodes
 IsAskInRange (peek_roots kind pid first count nodes marked) = (0 < nodes) × (1 ≤ count) × (count ≤ 1000)
-IsAskInRange (shapes pid count) = (1 ≤ count) × (count ≤ 1000)
+IsAskInRange (shapes pid count pids) = (1 ≤ count) × (count ≤ 1000)
 IsAskInRange (weigh pid count) = (1 ≤ count) × (count ≤ 1000)
 IsAskInRange (weigh_cell pid count addr) = (1 ≤ count) × (count ≤ 1000)
 IsAskInRange (triage count) = (1 ≤ count) × (count ≤ 1000)

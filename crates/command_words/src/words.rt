@@ -1,8 +1,8 @@
 // The words of the command line.
-ghost use Rattle.std.specs.Prelude.{◌≡◌, ◌<◌, ℕ, Bool, [], List, map, option_map};
+ghost use Rattle.std.specs.Prelude.{◌≡◌, ◌<◌, ℕ, Bool, [], ◌∷◌, List, map, option_map};
 ghost use Rattle.std.specs.Option.{IfSome};
 ghost use Rattle.std.specs.String.{string_bytes};
-ghost use Rattle.command_words.specs.Command.{Ask, audit, audit_json, audit_query, audit_settled, binary, command, ext_query, full_of, holders, on, peek_query, peek_term, plain_query, process_query, roots_query, shapes_query, shown_command, shown_query, some_roots_query, stacks, term, term_query, triage, weigh_query, word_command, word_query, IsAskInRange, IsInRange};
+ghost use Rattle.command_words.specs.Command.{Ask, audit, audit_json, audit_query, audit_settled, binary, command, ext_query, full_of, holders, on, peek_query, peek_term, plain_query, process_query, roots_query, shapes_query, shown_command, shown_query, some_roots_query, stacks, term, term_query, triage, weigh_query, word_command, word_query, IsAskInRange, IsInRange, counted_shapes, is_pids};
 ghost use Rattle.command_words.specs.Ranges.{number_upto};
 ghost use Rattle.dump_io.specs.Numbers.{hex_number};
 
@@ -99,11 +99,13 @@ pub enum Query<'a> {
     Reach {
         pid: &'a str,
     },
-    /// `shapes FILE PID [N]`: what kinds of messages are in a process's mailbox, at most
-    /// N of them, the most frequent first, whatever the sizes of the mailbox and of the heap.
+    /// `shapes FILE PID [N] [pids]`: what kinds of messages are in a process's mailbox, at most N of them, the
+    /// most frequent first, whatever the sizes of the mailbox and of the heap. With `pids` those differ that
+    /// have different pids.
     Shapes {
         pid: &'a str,
         count: u32,
+        pids: bool,
     },
     /// `weigh FILE PID [N]`: which of the cells to which a process's roots refer alone hold
     /// how much of its heap, at most N of them, whatever the size of the heap.
@@ -402,6 +404,47 @@ fn peek_query<'a>(pid: &'a str, words: &[String]) -> Option<Query<'a>>
     }
 }
 
+fn is_pids(word: &str) -> bool
+    ensures { result ≡ is_pids word.now }
+{
+    word == "pids"
+}
+
+// Kinds of messages, at most as many as a word says.
+fn counted_shapes<'a>(pid: &'a str, pids: bool, word: &str) -> Option<Query<'a>>
+    ensures reads { option_map shown_query result ≡ counted_shapes pid.now pids word.now }
+    ensures range { IfSome result (λ query. IsAskInRange (shown_query query)) }
+{
+    let count = number_upto(word, MOST_ROWS)?;
+    Some(Query::Shapes { pid, count, pids })
+}
+
+// Kinds of messages, given a number of them or the word `pids`.
+fn one_word_shapes<'a>(pid: &'a str, word: &str) -> Option<Query<'a>>
+    ensures reads { option_map shown_query result ≡ shapes_query pid.now (word.now ∷ []) }
+    ensures range { IfSome result (λ query. IsAskInRange (shown_query query)) }
+{
+    if is_pids(word) {
+        return Some(Query::Shapes {
+            pid,
+            count: USUAL_ROWS,
+            pids: true,
+        });
+    }
+    counted_shapes(pid, false, word)
+}
+
+// Kinds of messages, given a number of them and what has to be the word `pids`.
+fn two_word_shapes<'a>(pid: &'a str, count: &str, last: &str) -> Option<Query<'a>>
+    ensures reads { option_map shown_query result ≡ shapes_query pid.now (count.now ∷ last.now ∷ []) }
+    ensures range { IfSome result (λ query. IsAskInRange (shown_query query)) }
+{
+    if !is_pids(last) {
+        return None;
+    }
+    counted_shapes(pid, true, count)
+}
+
 fn shapes_query<'a>(pid: &'a str, words: &[String]) -> Option<Query<'a>>
     ensures reads { option_map shown_query result
         ≡ shapes_query pid.now (map string_bytes words.now) }
@@ -411,11 +454,10 @@ fn shapes_query<'a>(pid: &'a str, words: &[String]) -> Option<Query<'a>>
         [] => Some(Query::Shapes {
             pid,
             count: USUAL_ROWS,
+            pids: false,
         }),
-        [count] => {
-            let count = number_upto(count.as_str(), MOST_ROWS)?;
-            Some(Query::Shapes { pid, count })
-        }
+        [word] => one_word_shapes(pid, word.as_str()),
+        [count, last] => two_word_shapes(pid, count.as_str(), last.as_str()),
         _ => None,
     }
 }

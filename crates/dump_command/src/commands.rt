@@ -103,7 +103,9 @@ fn run_query<D: Dumps, K: Sink>(
         ),
         Query::Ext { pid, addr } => run_ext(dump, pid.as_bytes(), addr, dumps, out),
         Query::Reach { pid } => run_reach(dump, pid.as_bytes(), dumps, out),
-        Query::Shapes { pid, count } => run_shapes(dump, pid.as_bytes(), count, dumps, out),
+        Query::Shapes { pid, count, pids } => {
+            run_shapes(dump, pid.as_bytes(), count, pids, dumps, out)
+        }
         Query::Weigh { pid, count } => run_weigh(dump, pid.as_bytes(), count, dumps, out),
         Query::WeighCell { pid, count, addr } => run_weigh_cell(
             dump,

@@ -43,7 +43,7 @@ pub fn trees_stay()
 
 /// States a law and does no work: where `term`, `stack`, `dict` or `mail` isn't refused, `peek` of
 /// the same words isn't either and reports the same; of roots, if it shows them from the first on
-/// and may show as many as there are.
+/// and may show as many as there are. Behind that a truncated dump alone has lines: on what it may lack.
 pub fn peek_reports_the_same()
     ensures terms { PeeksTerms }
     ensures roots { PeeksRoots }

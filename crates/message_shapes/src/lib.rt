@@ -3,7 +3,7 @@
 //! The *shape* of a message says what kind of term it is, and of a tuple the kinds of its first 8 elements, as in
 //! `{'$gen_cast',{put,_,_}}` or `{event,integer(),list(),map()}` (`specs/Shapes.antt`). [`MailShapes::load`] hears the
 //! messages one by one, makes the shape of each cell to which one refers once, and groups the messages by the numbers of
-//! their shapes, the largest group first. Of an atom at most the first 255 bytes are shown.
+//! their shapes, the largest group first. Of an atom at most the first 255 bytes are shown, and so of a pid, if pids are shown.
 //!
 //! Of the heap its skeleton is kept (`heap_skeleton`), and of the tuples that are looked into the first elements
 //! (`tuple_fronts`), for which the heap is read once more.

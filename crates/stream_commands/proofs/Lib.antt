@@ -1,3 +1,4 @@
+mod CutLoads
 mod HolderLoads
 mod Redacting
 pub mod RowFacts

@@ -14,15 +14,15 @@ use Rattle.heap_cells.specs.Loading.{heap_bodies}
 use Rattle.heap_skeleton.specs.Skeletons.{skeleton_for}
 use Rattle.part_weights.specs.Weights.{address_weighing, cell_weighing, Weighing}
 use Rattle.stream_commands.specs.Weights.{weights_report}
-use Rattle.dump_questions.specs.Meaning.{no_body, no_process}
-use Rattle.dump_questions.specs.Heaps.{address_cause, no_address}
+use Rattle.dump_questions.specs.Meaning.{no_process}
+use Rattle.dump_questions.specs.Heaps.{address_cause, heap_question, no_address}
 use Rattle.dump_questions.specs.Tasks.{refusal_listed}
 use Rattle.dump_questions.specs.Reading.{IsIndexed, ReadsFor, Takes}
 use Rattle.dump_questions.specs.Stops.{Judges}
 use Rattle.dump_questions.specs.declared.stop.Stop.{Stop}
-use Rattle.dump_questions.specs.Laws.Heaps.{Takes-any}
 use Rattle.dump_questions.specs.Laws.Reading.{HasRead-listed, IsHalted-held}
 use Rattle.stream_commands.specs.Rows.{weigh_cell_row}
+use Rattle.stream_commands.proofs.CutLoads.{seen-indexed, Takes-cuts}
 
 -- the heap of the dump has a cell at the address exactly if its parts were weighed
 found-told : (pid bytes : List ℕ) (index : Contents) (addr : ℕ) → index ≡ index_of bytes
@@ -38,8 +38,12 @@ module _ (pid : List ℕ) (most addr : ℕ) (limits : Numbers) (index : Contents
     (told : (bytes : List ℕ) → old.now ≡ dumps_told bytes → found ≡ address_weighing bytes index pid addr) where
   takes : Takes (weigh_cell_row pid most addr) limits index old new
   takes =
-      Takes-any pid no_body (no_address addr) (λ bytes. address_weighing bytes (index_of bytes) pid addr) (λ w. option_map_or (weights_report most) w [])
-      (λ limits bytes. 0) limits index old new there count reads (λ bytes all. omega (arith, few))
+      Takes-cuts [] (record (heap_question pid) {
+        refuses = no_address addr;
+        What = Option Weighing;
+        what = λ bytes. address_weighing bytes (index_of bytes) pid addr;
+        show = λ found. option_map_or (weights_report most) found [];
+      }) limits index old new there count reads (λ bytes all. omega (arith, few))
 
   listed : refusal_listed (weigh_cell_row pid most addr) (sections_in index) limits ≡ None
   listed = ap (λ o. option_or o None) there
@@ -48,9 +52,9 @@ module _ (pid : List ℕ) (most addr : ℕ) (limits : Numbers) (index : Contents
   refused bytes all = found-told pid bytes index addr all.is ∙ ap (λ o. address_cause addr (is_some o)) (sym (told bytes all.opened))
 
   pub ReadsFor-cell : (result : Result Weighing Stop) → Judges (address_cause addr (is_some found)) result → IfOk result (λ w. found ≡ Some w)
-      → ReadsFor (weigh_cell_row pid most addr) limits index old new (λ w. Some w) result
+      → ReadsFor (weigh_cell_row pid most addr) limits index old new (λ w. record { index = index; seen = Some w }) result
   ReadsFor-cell (Ok w) judged is =
-      HasRead-listed (weigh_cell_row pid most addr) limits index old new (Some w) takes listed
-      (λ bytes all. (refused bytes all ∙ judged, sym is ∙ told bytes all.opened ∙ ap (λ i. address_weighing bytes i pid addr) all.is))
+      HasRead-listed (weigh_cell_row pid most addr) limits index old new (record { index = index; seen = Some w }) takes listed
+      (λ bytes all. (refused bytes all ∙ judged, seen-indexed all.is (sym is ∙ told bytes all.opened ∙ ap (λ i. address_weighing bytes i pid addr) all.is)))
   ReadsFor-cell (Err stop) judged is =
       IsHalted-held (weigh_cell_row pid most addr) limits index old new Weighing (address_cause addr (is_some found)) stop takes listed refused judged

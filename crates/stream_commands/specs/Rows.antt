@@ -1,13 +1,14 @@
 -- What each question of this crate means, in one row.
 use Rattle.dump_questions.specs.Meaning.{memory_body, memory_section, no_body, of_bodies, Meaning}
-use Rattle.dump_questions.specs.Heaps.{heap_question, no_address, of_any_size}
-use Rattle.std.specs.Prelude.{◌++◌, ◌+◌, [], length, true, List, Option, ℕ}
+use Rattle.dump_questions.specs.Heaps.{heap_question, no_address, of_any_size, HeapQuestion}
+use Rattle.std.specs.Prelude.{◌++◌, ◌+◌, ◌∷◌, [], length, true, Bool, List, Option, ℕ}
 use Rattle.std.specs.Option.{option_map_or, option_to_list}
 use Rattle.dump_sections.specs.Bodies.{body_in}
 use Rattle.dump_sections.specs.Index.{index_of, sections_in, Contents}
 use Rattle.dump_sections.specs.Loading.{bodies_length}
 use Rattle.dump_sections.specs.Sections.{sections, Section}
 use Rattle.root_views.specs.Sections.{root_bodies, root_section}
+use Rattle.root_views.specs.declared.kinds.RootKind.{RootKind}
 use Rattle.root_views.specs.declared.kinds.RootKind.TheVariants.{Mail}
 use Rattle.process_table.specs.Processes.{process_table, Process}
 use Rattle.process_table.specs.Records.{record_sections}
@@ -23,6 +24,7 @@ use Rattle.message_shapes.specs.Messages.{mail_shapes, ShapeMap}
 use Rattle.stream_commands.specs.Shapes.{shapes_report}
 use Rattle.part_weights.specs.Weights.{address_weighing, root_weighing, Weighing}
 use Rattle.stream_commands.specs.Weights.{weights_report}
+use Rattle.term_text.specs.Cuts.{all_roots, cut_report}
 use Rattle.dump_redact.specs.Redacted.{redacted}
 use Rattle.dump_redact.specs.Refusals.{heap_sections}
 
@@ -81,19 +83,32 @@ of_holders q =
       takes = λ limits bytes. bodies_length (bodies (sections bytes)) + q.more (index_of bytes) (pids_of (process_table bytes).processes);
     }
 
--- what kinds of messages the process with this pid has in its mailbox, at most this many of them
-abbrev pub shapes_row : List ℕ → ℕ → Meaning
-shapes_row pid most = of_any_size (record (heap_question pid) {
+-- what is seen of a heap, and the index of the dump
+pub record Indexed (A : Type 0) : Type 0 where
+  pub index : Contents
+  pub seen : A
+
+-- a question on roots of these kinds and on a heap, of any sizes: its report ends with what a truncated dump may lack of them
+abbrev pub with_cuts : List RootKind → HeapQuestion → Meaning
+with_cuts kinds q = of_any_size (record q {
+  What = Indexed q.What;
+  what = λ bytes. record { index = index_of bytes; seen = q.what bytes };
+  show = λ s. q.show s.seen ++ cut_report s.index q.pid kinds;
+})
+
+-- what kinds of messages the process with this pid has in its mailbox, at most this many of them, with pids shown or not
+abbrev pub shapes_row : List ℕ → ℕ → Bool → Meaning
+shapes_row pid most pids = with_cuts (Mail ∷ []) (record (heap_question pid) {
   also = λ ss. option_to_list (root_section Mail pid ss);
   What = ShapeMap;
-  what = λ bytes. mail_shapes bytes (index_of bytes) pid;
+  what = λ bytes. mail_shapes pids bytes (index_of bytes) pid;
   show = shapes_report most;
   more = λ limits bytes. bodies_length (heap_bodies pid (sections bytes));
 })
 
 -- what each of the cells alone holds to which the roots of the process with this pid refer, at most this many of them
 abbrev pub weigh_row : List ℕ → ℕ → Meaning
-weigh_row pid most = of_any_size (record (heap_question pid) {
+weigh_row pid most = with_cuts all_roots (record (heap_question pid) {
   also = root_bodies pid;
   What = Weighing;
   what = λ bytes. root_weighing bytes (index_of bytes) pid;
@@ -102,7 +117,7 @@ weigh_row pid most = of_any_size (record (heap_question pid) {
 
 -- what each of the cells alone holds to which the elements of the cell at this address refer, at most this many of them
 abbrev pub weigh_cell_row : List ℕ → ℕ → ℕ → Meaning
-weigh_cell_row pid most addr = of_any_size (record (heap_question pid) {
+weigh_cell_row pid most addr = with_cuts [] (record (heap_question pid) {
   refuses = no_address addr;
   What = Option Weighing;
   what = λ bytes. address_weighing bytes (index_of bytes) pid addr;

@@ -12,6 +12,8 @@ use dump_questions::status::DONE;
 use dump_questions::{Opened, Report, Stop, Unopened, find_process, run_report};
 use part_weights::Weights;
 use report_text::Refusal;
+use root_views::RootKind;
+use term_text::put_cuts;
 
 /// `weigh` of a process.
 #[derive(Clone, Copy)]
@@ -33,7 +35,7 @@ impl Report for Weigh<'_> {
 
     ghost means = { λ c. weigh_row c.pid.now c.count };
 
-    ghost seen = { λ _ _ weights. weights };
+    ghost seen = { λ _ index weights. record { index = index; seen = weights } };
 
     fn read<D: Dumps>(&self, at: &Opened<'_>, dumps: &mut D) -> Result<Weights, Stop> {
         find_process(at, self.pid)?;
@@ -41,8 +43,10 @@ impl Report for Weigh<'_> {
         Ok(weights)
     }
 
-    fn put<K: Sink>(&self, _at: &Opened<'_>, weights: &Weights, out: &mut K) -> Result<u8, Stop> {
+    fn put<K: Sink>(&self, at: &Opened<'_>, weights: &Weights, out: &mut K) -> Result<u8, Stop> {
         put_weights(out, weights, self.count)?;
+        let kinds = [RootKind::Stack, RootKind::Dict, RootKind::Mail];
+        put_cuts(out, at.index, self.pid, &kinds)?;
         Ok(DONE)
     }
 }
@@ -63,7 +67,7 @@ impl Report for WeighCell<'_> {
 
     ghost means = { λ c. weigh_cell_row c.pid.now c.count c.addr };
 
-    ghost seen = { λ _ _ weights. Some weights };
+    ghost seen = { λ _ index weights. record { index = index; seen = Some weights } };
 
     fn read<D: Dumps>(&self, at: &Opened<'_>, dumps: &mut D) -> Result<Weights, Stop> {
         find_process(at, self.pid)?;
@@ -71,8 +75,9 @@ impl Report for WeighCell<'_> {
         or_no_address(found, self.addr)
     }
 
-    fn put<K: Sink>(&self, _at: &Opened<'_>, weights: &Weights, out: &mut K) -> Result<u8, Stop> {
+    fn put<K: Sink>(&self, at: &Opened<'_>, weights: &Weights, out: &mut K) -> Result<u8, Stop> {
         put_weights(out, weights, self.count)?;
+        put_cuts(out, at.index, self.pid, &[])?;
         Ok(DONE)
     }
 }

@@ -43,7 +43,7 @@ pub returns-in-Reach : goal.returns-in-Reach
 returns-in-Reach g c = runs-asked (ap shown_query c.in-Reach.is ∙ ap (λ p. reach p) (sym c.as_bytes-in-Reach.ensures.value)) c.run_reach.ensures
 
 pub returns-in-Shapes : goal.returns-in-Shapes
-returns-in-Shapes g c = runs-asked (ap shown_query c.in-Shapes.is ∙ ap (λ p. shapes p c.in-Shapes.count) (sym c.as_bytes-in-Shapes.ensures.value)) c.run_shapes.ensures
+returns-in-Shapes g c = runs-asked (ap shown_query c.in-Shapes.is ∙ ap (λ p. shapes p c.in-Shapes.count c.in-Shapes.pids) (sym c.as_bytes-in-Shapes.ensures.value)) c.run_shapes.ensures
 
 pub returns-in-Weigh : goal.returns-in-Weigh
 returns-in-Weigh g c = runs-asked (ap shown_query c.in-Weigh.is ∙ ap (λ p. weigh p c.in-Weigh.count) (sym c.as_bytes-in-Weigh.ensures.value)) c.run_weigh.ensures

@@ -1,4 +1,4 @@
-use Rattle.std.proofs.Common.{◌≡◌, ◌∙◌, ap, subst, false, length}
+use Rattle.std.proofs.Common.{◌∙◌, ap, subst, false, length}
 use Rattle.std.specs.List.Sorted.{IsStrictlyIncreasing}
 use Rattle.std.proofs.lemmas.List.{length-map}
 use Rattle.tuple_fronts.specs.Inner.CellTexts.{inner_text}

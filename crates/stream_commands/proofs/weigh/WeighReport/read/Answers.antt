@@ -9,11 +9,12 @@ use Rattle.part_weights.specs.Weights.{root_weighing, Weighing}
 use Rattle.root_views.specs.Sections.{root_bodies}
 use Rattle.stream_commands.specs.Weights.{weights_report}
 use Rattle.dump_questions.specs.Meaning.{no_process}
-use Rattle.dump_questions.specs.Heaps.{never}
+use Rattle.dump_questions.specs.Heaps.{heap_question}
 use Rattle.dump_questions.specs.Reading.{Takes}
-use Rattle.dump_questions.specs.Laws.Heaps.{Takes-any}
 use Rattle.dump_questions.specs.Laws.Reading.{HasRead-listed, IsHalted-reading, IsHalted-subject, ReadsFor-halted}
+use Rattle.term_text.specs.Cuts.{all_roots}
 use Rattle.stream_commands.specs.Rows.{weigh_row}
+use Rattle.stream_commands.proofs.CutLoads.{seen-indexed, Takes-cuts}
 use Rattle.stream_commands.proofs.weigh.WeighReport.read.Goals as goal
 
 -- so many bytes are taken for the roots and the heap
@@ -21,8 +22,12 @@ takes : (pid : List ℕ) (most : ℕ) (limits : Numbers) (index : Contents) (old
     → (count : ℕ) → ReadsAtMost old new count → count ≤ bodies_length (root_bodies pid (sections_in index)) + bodies_length (heap_bodies pid (sections_in index))
     → Takes (weigh_row pid most) limits index old new
 takes pid most limits index old new there count reads few =
-    Takes-any {A = Weighing} pid (root_bodies pid) never (λ bytes. root_weighing bytes (index_of bytes) pid) (weights_report most) (λ limits bytes. 0)
-    limits index old new there count reads (λ bytes all. omega (arith, few))
+    Takes-cuts all_roots (record (heap_question pid) {
+      also = root_bodies pid;
+      What = Weighing;
+      what = λ bytes. root_weighing bytes (index_of bytes) pid;
+      show = weights_report most;
+    }) limits index old new there count reads (λ bytes all. omega (arith, few))
 
 pub returns-in_err-find_process-clause-reads : goal.returns-in_err-find_process-clause-reads
 returns-in_err-find_process-clause-reads g c =
@@ -45,4 +50,4 @@ returns-clause-reads g c =
     let weighed = c.in_ok-weights.ensures in
     HasRead-listed (weigh_row t.pid.now t.count) _ c.args.at.now.index.now _ _ _
     (takes t.pid.now t.count _ c.args.at.now.index.now _ _ there _ weighed.reads (omega arith)) (ap (λ o. option_or o None) there)
-    (λ bytes all. (refl, weighed.weights bytes all.opened ∙ ap (λ i. root_weighing bytes i t.pid.now) all.is))
+    (λ bytes all. (refl, seen-indexed all.is (weighed.weights bytes all.opened ∙ ap (λ i. root_weighing bytes i t.pid.now) all.is)))
