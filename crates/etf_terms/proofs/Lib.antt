@@ -7,6 +7,7 @@ pub mod Joins
 pub mod Loops
 pub mod Placing
 pub mod Readings
+pub mod ReferenceFacts
 pub mod Stands
 pub mod Stepping
 pub mod TagRows

@@ -7,6 +7,7 @@ pub mod Laws
 pub mod Layouts
 pub mod Place
 pub mod Reading
+pub mod References
 pub mod Table
 pub mod Terms
 pub mod Text

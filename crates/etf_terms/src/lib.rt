@@ -14,9 +14,11 @@ mod heads;
 mod laws;
 mod nesting;
 mod printing;
+mod references;
 mod stack;
 mod verdicts;
 
 pub use ext::{Ext, ExtFault};
 pub use laws::{bad_place_is_longest, no_proper_prefix, text_is_read, unique_reading};
+pub use references::{reference_words, words_are_read};
 pub use verdicts::judge;

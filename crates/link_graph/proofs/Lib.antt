@@ -9,6 +9,7 @@ pub mod KindLaws
 pub mod Laying
 pub mod Numbers
 pub mod Opening
+pub mod RequestFacts
 pub mod Sets
 pub mod Spanned
 pub mod Spans

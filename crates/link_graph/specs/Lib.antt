@@ -5,5 +5,6 @@ pub mod Kinds
 pub mod Laws
 pub mod Lists
 pub mod Reading
+pub mod Requests
 pub mod Seen
 pub mod Texts

@@ -29,11 +29,13 @@ mod list_parts;
 mod listed;
 mod lists;
 pub mod reading;
+mod requests;
 pub mod shapes;
 mod texts;
 
 pub use entry_lists::EntryLists;
 pub use graph::Graph;
-pub use laws::{a_list_is_cut_at_gaps, an_entry_has_one_kind};
+pub use laws::{a_list_is_cut_at_gaps, a_partner_is_named, an_entry_has_one_kind};
+pub use requests::{Request, request_in};
 pub use shapes::{Entry, EntryKind};
 pub use texts::is_local;

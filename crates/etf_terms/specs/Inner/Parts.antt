@@ -1,6 +1,6 @@
 -- How the readers proceed: each takes what it reads off the front, or
 -- returns how many bytes are left from the first that isn't allowed there.
-use Rattle.std.specs.Prelude.{◌≡◌, ℕ, suc, ◌*◌, ◌==◌, ◌&&◌, nat_le, Bool, true, false, List, [], ◌∷◌, length, take, drop, Result, Ok, Err, if◌then◌else◌}
+use Rattle.std.specs.Prelude.{◌≡◌, ℕ, suc, ◌*◌, ◌==◌, ◌&&◌, nat_le, Bool, true, false, List, [], ◌∷◌, length, take, drop, Option, None, Some, Result, Ok, Err, if◌then◌else◌}
 use Rattle.std.specs.Int.{w16, w32, w64, from_be_bytes}
 use Rattle.etf_terms.specs.Heads.{Head, Float, Bits, Pid, Port, Ref, Small, Int, Atom, Tuple, Nil, Chars, Linked, Bin, Big, Fun, Export, Pairs}
 use Rattle.etf_terms.specs.Table.{head_layout}
@@ -158,3 +158,8 @@ parsed (Off rest) = Err (length rest)
 -- the head at the front, as the table lays it out
 unfoldable pub head_of : List ℕ → Parsed Head
 head_of bytes = parsed (reading head_layout bytes)
+
+-- a head behind which nothing is left
+abbrev pub only_head : Head → List ℕ → Option Head
+only_head head [] = Some head
+only_head head (b ∷ rest) = None

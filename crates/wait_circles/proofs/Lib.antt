@@ -1,0 +1,11 @@
+mod Examples
+pub mod MeetFacts
+pub mod LeadFacts
+pub mod PeelFacts
+pub mod RingFacts
+pub mod TellFacts
+pub mod ComingFacts
+pub mod NumberFacts
+pub mod WalkFacts
+pub mod BlockFacts
+pub mod ReportFacts
