@@ -45,11 +45,10 @@ tell() {
     }' || slow=1
 }
 
-# A command with its kinds of words, on the shape.
+# A command with its kinds of words, on the shape. A form that isn't named here is run with a word of each kind that has to be there.
 try() {
     case $3 in
     "FILE" | "FILE [N]") tell "$1" "$2" ;;
-    "FILE PID") tell "$1" "$2" "<0.1.0>" ;;
     "FILE PID [N]") tell "$1" "$2" "<0.1.0>" 3 ;;
     "FILE PID [N] [pids]") tell "$1" "$2" "<0.1.0>" 3 && tell "$1" "$2" "<0.1.0>" 3 pids ;;
     "FILE PID N ADDR") tell "$1" "$2" "<0.1.0>" 3 10 ;;
@@ -58,8 +57,8 @@ try() {
     "FILE PID KIND"*) tell "$1" "$2" "<0.1.0>" mail 0 1000 "$nodes" ;;
     "FILE ADDR") tell "$1" "$2" 1 ;;
     "FILE LIMIT [full]") tell "$1" "$2" 5 && tell "$1" "$2" 5 full ;;
-    "FILE KEY") tell "$1" "$2" State ;;
     "SEED COUNT") ;;
+    "FILE "*) tell "$1" "$2" $("$here/../.ci/documents" --words "${3#FILE}" PID="<0.1.0>" ADDR=10) ;;
     *) echo "hostile: with which words is \`$2 $3\` to be run?" >&2 && exit 1 ;;
     esac
 }

@@ -1,5 +1,5 @@
-# Completes the words of edump in bash: the command, the name of a dump, a pid that stands in it, and the words that may be left
-# out. In place of FORMS `install` writes the commands, each with the kinds of its words.
+# Completes the words of edump in bash: the command, the name of a dump, a pid or a tag that stands in it, and the words that may be
+# left out. In place of FORMS `install` writes the commands, each with the kinds of its words.
 _edump_forms="FORMS"
 
 # The name of a file for which a word of the command line stands, without its quotes and backslashes: `~` and variables are
@@ -33,6 +33,14 @@ _edump_pids() {
     edump index "$file" 2>/dev/null | sed -n 's/^[0-9]* [0-9]* [0-9]* =proc:\(<[0-9.]*>\)$/\1/p' | sort -u | while read -r pid; do
         printf "$2\\n" "$pid"
     done
+}
+
+# The tags of the sections of a dump, which is read as for its pids.
+_edump_tags() {
+    local file
+    file=$(_edump_file "$1")
+    [ -f "$file" ] && [ "$(wc -c <"$file")" -le 256000000 ] || return
+    edump info "$file" 2>/dev/null | sed -n 's/^tag [0-9]* \([a-z_]*\)$/\1/p'
 }
 
 # The forms of a command, each as the kinds of its words.
@@ -69,6 +77,7 @@ _edump() {
             ;;
         "[NODES]" | "[marked]") [ "$before" = marked ] || COMPREPLY=($(compgen -W "marked" -- "$word")) ;;
         "[N]" | "[pids]") [[ " ${form[*]} " != *" [pids]"* || $before = pids ]] || COMPREPLY=($(compgen -W "pids" -- "$word")) ;;
+        TAG) COMPREPLY=($(compgen -W "$(_edump_tags "${COMP_WORDS[2]}")" -- "$word")) ;;
         KIND) COMPREPLY=($(compgen -W "stack dict mail" -- "$word")) ;;
         "[full]") COMPREPLY=($(compgen -W "full" -- "$word")) ;;
     esac

@@ -1,6 +1,7 @@
 -- What is counted when a line refers to a binary.
-use Rattle.std.proofs.Common.{◌≡◌, ◌≢◌, ℕ, zero, suc, ◌+◌, ◌-◌, ◌^◌, ◌<◌, ◌≤◌, ◌==◌, Bool, true, false, cond, not, ◌&&◌, ◌||◌, List, [], ◌∷◌, ◌++◌, length, get_or, set, None, Some, refl, sym, ◌∙◌, ap, subst, arith, append-nil, append_assoc, ⊎_elim}
-use Rattle.std.specs.Prelude.{min, slice_index, replicate}
+use Rattle.std.proofs.Common.{◌≡◌, ◌≢◌, ℕ, zero, Option, suc, ◌+◌, ◌-◌, ◌^◌, ◌<◌, ◌≤◌, ◌==◌, Bool, true, false, cond, not, ◌&&◌, ◌||◌, List, [], ◌∷◌, ◌++◌, length, get_or, set, None, Some, refl, sym, ◌∙◌, ap, subst, arith, append-nil, append_assoc, ⊎_elim}
+use Rattle.std.specs.Prelude.{min, slice_index, replicate, find, if◌then◌else◌}
+use Rattle.std.specs.Option.{option_map_or}
 use Rattle.std.specs.List.{count_by, sum_by, filter}
 use Rattle.std.proofs.Math.Bool.{or-false}
 use Rattle.std.proofs.lemmas.Bool.{cases_eq, eq-eqb, ne_eqb, or_right}
@@ -8,17 +9,17 @@ use Rattle.std.proofs.lemmas.List.{get_or-map, get_or-set_same, get_or-set_other
 use Rattle.std.proofs.lemmas.List.Folds.{list_any-append, list_any_at, list_any_none}
 use Rattle.std.proofs.lemmas.List.Elements.{All-from_get_or}
 use Rattle.std.proofs.lemmas.List.Sums.{sum_by-cons, sum_by_push, count_by-le-length}
-use Rattle.binary_holders.specs.declared.rows.Holding.{Holding}
+use Rattle.binary_holders.specs.declared.counts.HeapLines.{HeapLines}
 use Rattle.binary_holders.specs.declared.targets.Binary.{Binary}
 use Rattle.binary_holders.specs.declared.counts.Counts.{Counts}
 use Rattle.text_groups.specs.Sums.{capped}
-use Rattle.binary_holders.specs.Held.{bytes_held, cells_holding, holding_of, holds, holders_of, is_unstored, whole_lines}
+use Rattle.binary_holders.specs.Held.{bytes_held, cells_holding, first_cell, holding_of, holds, holders_of, is_known, is_unstored, whole_lines}
 use Rattle.binary_holders.specs.StoredBinaries.{is_among}
 use Rattle.binary_holders.specs.Inner.Places.{numbers_in, IsOnlyPlace}
 use Rattle.binary_holders.specs.HeapReferences.{numbers_referred}
 use Rattle.binary_holders.specs.declared.rows.WholeLines.{WholeLines}
 use Rattle.binary_holders.specs.declared.texts.Reference.{Reference}
-use Rattle.binary_holders.specs.Inner.Counting.{number_at, counted, HasCounted, HasRoom, Adds, AddsNumbers, KeepsRoom}
+use Rattle.binary_holders.specs.Inner.Counting.{number_at, counted, first_with, heap_lines, line_more, HasCounted, HasRoom, Adds, AddsNumbers, KeepsRoom}
 use Rattle.binary_holders.proofs.SumFacts.{sum-agree, sum-differs, sum-filter, sum-part}
 
 -- ---- several references one after another
@@ -32,6 +33,7 @@ pub Adds-then : (binaries : List Binary) (old mid new : Counts) (xs ys : List Re
 Adds-then binaries old mid new xs ys first second = record {
   numbers = subst (AddsNumbers binaries old new) (sym (map-append (λ (r : Reference). r.number) xs ys))
       (numbers-then binaries old mid new (numbers_referred xs) (numbers_referred ys) first.numbers second.numbers);
+  heap = λ before is. second.heap (before ++ xs) (first.heap before is) ∙ ap (heap_lines binaries) (append_assoc before xs ys);
   lines = λ before is. second.lines (before ++ xs) (first.lines before is) ∙ ap (whole_lines binaries) (append_assoc before xs ys);
 }
 
@@ -91,10 +93,9 @@ module _ (binaries : List Binary) (refs : List ℕ) (n : ℕ) where
         ∙ ap (λ t. holders_of heaps (number_at binaries k) + one t) (all k inside)
         ∙ sym (sum_by_push (λ xs. one (is_among xs (number_at binaries k))) heaps refs)
 
-    -- what was known stays, but for how many references are to one of them
-    counted-stays : (heaps : List (List ℕ)) (counts : Counts) (cells : ℕ) → HasCounted binaries heaps refs counts → cells ≡ capped (cells_holding binaries (refs ++ n ∷ []))
-        → HasCounted binaries heaps (refs ++ n ∷ []) (record counts { cells = cells })
-    counted-stays heaps counts cells had is = record {
+    -- what was known stays
+    counted-stays : (heaps : List (List ℕ)) (counts : Counts) → HasCounted binaries heaps refs counts → HasCounted binaries heaps (refs ++ n ∷ []) counts
+    counted-stays heaps counts had = record {
       turn = had.turn;
       seen_size = had.seen_size;
       holders_size = had.holders_size;
@@ -103,7 +104,6 @@ module _ (binaries : List Binary) (refs : List ℕ) (n : ℕ) where
       holders = λ k inside. had.holders k inside ∙ sym (holders-stay heaps k inside);
       count = had.count ∙ sym count-stays;
       total = had.total ∙ sym bytes-stay;
-      cells = is;
     }
 
   -- ---- where that of one place changes
@@ -160,10 +160,8 @@ unknown binaries n none =
 pub add-unknown : (binaries : List Binary) (counts : Counts) (n : ℕ) → IsOnlyPlace (numbers_in binaries) n None → AddsNumbers binaries counts counts (n ∷ [])
 add-unknown binaries counts n none = record {
   later = λ heaps refs had.
-      let gone = unknown binaries n none in
       let stays = λ (k : ℕ) (inside : k < length binaries). among-other refs n (number_at binaries k) (λ same. none k (omega (arith, inside, length-numbers binaries)) (sym same)) in
-      counted-stays binaries refs n stays heaps counts counts.cells had
-      (had.cells ∙ ap capped (sym (cells-as binaries refs n ∙ ap (λ t. cells_holding binaries refs + one t) gone ∙ (let e : cells_holding binaries refs + 0 ≡ cells_holding binaries refs = omega arith in e))));
+      counted-stays binaries refs n stays heaps counts had;
 }
 
 -- the number is that of the binary at a place, and of no other
@@ -177,16 +175,9 @@ module _ (binaries : List Binary) (n p : ℕ) (only : IsOnlyPlace (numbers_in bi
   pub known : is_among (numbers_in binaries) n ≡ true
   known = list_any_at (λ m. m == n) (numbers_in binaries) p 0 only.0 (eq-eqb (get_or (numbers_in binaries) p 0) n only.1)
 
-  one-cell : (refs : List ℕ) (old new : ℕ) → old ≡ capped (cells_holding binaries refs) → new ≡ min (old + 1) (2 ^ 64 - 1) → new ≡ capped (cells_holding binaries (refs ++ n ∷ []))
-  one-cell refs old new was is =
-      let more = cells-as binaries refs n ∙ ap (λ t. cells_holding binaries refs + one t) known in
-      let sum : cells_holding binaries (refs ++ n ∷ []) ≡ cells_holding binaries refs + 1 = more in
-      is ∙ ap (λ m. min (m + 1) (2 ^ 64 - 1)) was ∙ capped-sum (cells_holding binaries refs) 1 ∙ ap capped (sym sum)
-
   -- the heap holds it already
-  pub add-again : (counts : Counts) (cells : ℕ) → slice_index counts.seen.items p ≡ counts.turn → cells ≡ min (counts.cells + 1) (2 ^ 64 - 1)
-      → AddsNumbers binaries counts (record counts { cells = cells }) (n ∷ [])
-  add-again counts cells held is = record {
+  pub add-again : (counts : Counts) → slice_index counts.seen.items p ≡ counts.turn → AddsNumbers binaries counts counts (n ∷ [])
+  add-again counts held = record {
     later = λ heaps refs had.
         let there : is_among refs (number_at binaries p) ≡ true = sym (had.seen p within) ∙ eq-eqb (slice_index counts.seen.items p) counts.turn held in
         let stays : (k : ℕ) → k < length binaries → is_among (refs ++ n ∷ []) (number_at binaries k) ≡ is_among refs (number_at binaries k) =
@@ -194,15 +185,15 @@ module _ (binaries : List Binary) (n p : ℕ) (only : IsOnlyPlace (numbers_in bi
         (λ same. ap (λ m. is_among (refs ++ n ∷ []) (number_at binaries m)) same ∙ among-here refs n (number_at binaries p) (sym only.1) ∙ sym there ∙ ap (λ m. is_among refs (number_at binaries m)) (sym same))
         (λ other. among-other refs n (number_at binaries k) (apart k inside other))
         (cases_eq k p) in
-        counted-stays binaries refs n stays heaps counts cells had (one-cell refs counts.cells cells had.cells is);
+        counted-stays binaries refs n stays heaps counts had;
   }
 
   -- the heap didn't hold it before
   pub add-new : (counts new : Counts) → sum_by (λ (b : Binary). b.size) binaries < 2 ^ 128 → length binaries + 1 < 2 ^ 64 → counts.turn < 2 ^ 32 → slice_index counts.seen.items p ≢ counts.turn → new.turn ≡ counts.turn
       → new.seen.items ≡ set counts.seen.items p counts.turn → new.holders.items ≡ set counts.holders.items p (min (slice_index counts.holders.items p + 1) (2 ^ 32 - 1))
       → new.count ≡ min (counts.count + 1) (2 ^ 64 - 1) → new.total ≡ min (counts.total + (get_or binaries p no_binary).size) (2 ^ 128 - 1)
-      → new.cells ≡ min (counts.cells + 1) (2 ^ 64 - 1) → AddsNumbers binaries counts new (n ∷ [])
-  add-new counts new fits few small unheld turn seen holders count total cells = record {
+      → AddsNumbers binaries counts new (n ∷ [])
+  add-new counts new fits few small unheld turn seen holders count total = record {
     later = λ heaps refs had.
         let before : is_among refs (number_at binaries p) ≡ false = sym (had.seen p within) ∙ ne_eqb (slice_index counts.seen.items p) counts.turn unheld in
         let after : is_among (refs ++ n ∷ []) (number_at binaries p) ≡ true = among-here refs n (number_at binaries p) (sym only.1) in
@@ -257,7 +248,6 @@ module _ (binaries : List Binary) (n p : ℕ) (only : IsOnlyPlace (numbers_in bi
               let most = sum-part (holds (refs ++ n ∷ [])) (λ (b : Binary). b.size) binaries in
               let room : min (counts.total + (get_or binaries p no_binary).size) (2 ^ 128 - 1) ≡ bytes_held binaries (refs ++ n ∷ []) = omega (arith, grown, most, had.total, fits) in
               total ∙ room);
-          cells = one-cell refs counts.cells new.cells had.cells cells;
         };
   }
 
@@ -274,8 +264,8 @@ sum-none (b ∷ binaries) = sum-none binaries
 
 -- the next turn
 pub next-turn : (binaries : List Binary) (heaps : List (List ℕ)) (refs : List ℕ) (counts new : Counts) → HasCounted binaries heaps refs counts → new.turn ≡ counts.turn + 1
-    → new.seen ≡ counts.seen → new.holders ≡ counts.holders → new.count ≡ 0 → new.total ≡ 0 → new.cells ≡ 0 → HasCounted binaries (heaps ++ refs ∷ []) [] new
-next-turn binaries heaps refs counts new had turn seen holders count bytes cells = record {
+    → new.seen ≡ counts.seen → new.holders ≡ counts.holders → new.count ≡ 0 → new.total ≡ 0 → HasCounted binaries (heaps ++ refs ∷ []) [] new
+next-turn binaries heaps refs counts new had turn seen holders count bytes = record {
   turn = turn ∙ (let e = length_push heaps refs in let same : counts.turn + 1 ≡ length (heaps ++ refs ∷ []) + 1 = omega (arith, e, had.turn) in same);
   seen_size = ap (λ (v : _). length v.items) seen ∙ had.seen_size;
   holders_size = ap (λ (v : _). length v.items) holders ∙ had.holders_size;
@@ -290,14 +280,13 @@ next-turn binaries heaps refs counts new had turn seen holders count bytes cells
       ∙ sym (sum_by_push (λ xs. one (is_among xs (number_at binaries k))) (heaps ++ refs ∷ []) []);
   count = count ∙ sym (none-held binaries);
   total = bytes ∙ sym (sum-none binaries);
-  cells = cells;
 }
 
 -- nothing was counted
-pub nothing-counted : (binaries : List Binary) (counts : Counts) → counts.turn ≡ 1 → counts.count ≡ 0 → counts.total ≡ 0 → counts.cells ≡ 0
+pub nothing-counted : (binaries : List Binary) (counts : Counts) → counts.turn ≡ 1 → counts.count ≡ 0 → counts.total ≡ 0
     → length counts.seen.items ≡ length binaries → length counts.holders.items ≡ length binaries
     → ((k : ℕ) → slice_index counts.seen.items k ≡ 0) → ((k : ℕ) → slice_index counts.holders.items k ≡ 0) → HasCounted binaries [] [] counts
-nothing-counted binaries counts turn count bytes cells seen_size holders_size seen holders = record {
+nothing-counted binaries counts turn count bytes seen_size holders_size seen holders = record {
   turn = turn;
   seen_size = seen_size;
   holders_size = holders_size;
@@ -306,7 +295,6 @@ nothing-counted binaries counts turn count bytes cells seen_size holders_size se
   holders = λ k inside. holders k;
   count = count ∙ sym (none-held binaries);
   total = bytes ∙ sym (sum-none binaries);
-  cells = cells;
 }
 
 -- room that nothing was written into
@@ -316,15 +304,25 @@ zeros-at (suc n) zero = refl
 zeros-at (suc n) (suc k) = zeros-at n k
 
 -- what a process holds
-pub held-is : (binaries : List Binary) (heaps : List (List ℕ)) (refs : List ℕ) (counts : Counts) (process : ℕ) → HasCounted binaries heaps refs counts → length refs < 2 ^ 64
-    → counted process counts ≡ holding_of binaries (process, refs)
-held-is binaries heaps refs counts process had few =
-    let most = count_by-le-length (is_among (numbers_in binaries)) refs in
-    let cells : counts.cells ≡ cells_holding binaries refs = omega (arith, had.cells, most, few) in
-    ap (λ n. made n counts.count counts.cells) had.total ∙ ap (λ n. made (bytes_held binaries refs) n counts.cells) had.count ∙ ap (λ n. made (bytes_held binaries refs) (count_by (holds refs) binaries) n) cells
-  where
-    made : ℕ → ℕ → ℕ → Holding
-    made total count cells = record { process = process; bytes = capped total; total = total; count = count; cells = cells }
+pub held-is : (binaries : List Binary) (heaps : List (List ℕ)) (lines : List Reference) (counts : Counts) (process bytes : ℕ) → HasCounted binaries heaps (numbers_referred lines) counts
+    → counts.heap ≡ heap_lines binaries lines → length lines < 2 ^ 64 → counted process bytes counts ≡ holding_of binaries (process, record { counted = bytes; references = lines })
+held-is binaries heaps lines counts process bytes had same few =
+    let most = count_by-le-length (is_among (numbers_in binaries)) (numbers_referred lines) in
+    let size = length-map lines (λ (r : Reference). r.number) in
+    let all : counts.heap.lines ≡ length lines = ap (λ (h : HeapLines). h.lines) same ∙ (let e : capped (length lines) ≡ length lines = omega (arith, few) in e) in
+    let own : counts.heap.cells ≡ cells_holding binaries (numbers_referred lines) =
+    ap (λ (h : HeapLines). h.cells) same ∙ (let e : capped (cells_holding binaries (numbers_referred lines)) ≡ cells_holding binaries (numbers_referred lines) = omega (arith, few, most, size) in e) in
+    let first : counts.heap.first ≡ first_cell binaries lines = ap (λ (h : HeapLines). h.first) same in
+    λ i. record {
+      process = process;
+      counted = bytes;
+      bytes = capped (had.total i);
+      total = had.total i;
+      count = had.count i;
+      lines = all i;
+      cells = own i;
+      first = first i;
+    }
 
 -- ---- the room stays
 
@@ -346,6 +344,7 @@ keeps-then old mid new first second = record {
 pub Adds-none : (binaries : List Binary) (counts : Counts) → Adds binaries counts counts []
 Adds-none binaries counts = record {
   numbers = record { later = λ heaps refs had. subst (λ l. HasCounted binaries heaps l counts) (sym (append-nil refs)) had };
+  heap = λ before is. is ∙ ap (heap_lines binaries) (sym (append-nil before));
   lines = λ before is. is ∙ ap (whole_lines binaries) (sym (append-nil before));
 }
 
@@ -368,3 +367,47 @@ one-line binaries old mid new line known same is count unstored before had =
     (unstored ∙ ap (λ m. min (m + one (line.whole && not known)) (2 ^ 64 - 1)) gone ∙ ap (λ k. min (capped (count_by (is_unstored binaries) before) + one (line.whole && not k)) (2 ^ 64 - 1)) is
     ∙ capped-sum (count_by (is_unstored binaries) before) (one (is_unstored binaries line))
     ∙ ap capped (sym (sum_by_push (λ (r : Reference). one (is_unstored binaries r)) before line)))
+
+-- ---- the lines of one heap
+
+module _ (binaries : List Binary) (line : Reference) where
+  -- whether the line refers to one of the binaries
+  abbrev own : Bool
+  own = is_among (numbers_in binaries) line.number
+
+  -- the first line that does, once there is one line more
+  first-grows : (before : List Reference) → first_with line.address own (heap_lines binaries before) ≡ first_cell binaries (before ++ line ∷ [])
+  first-grows [] = by own
+    where
+      by : (k : Bool) → first_with line.address k (heap_lines binaries []) ≡ option_map_or (λ (r : Reference). r.address) (if k then Some line else None) 0
+      by true = refl
+      by false = refl
+  first-grows (x ∷ rest) =
+      let count = sum_by-cons (λ m. one (is_among (numbers_in binaries) m)) x.number (numbers_referred rest) in
+      ap (λ n. if own && (capped n == 0) then line.address else first_cell binaries (x ∷ rest)) count
+      ∙ by (is_among (numbers_in binaries) x.number) own (cells_holding binaries (numbers_referred rest)) (find (is_known binaries) rest) (find (is_known binaries) (rest ++ line ∷ [])) (first-grows rest)
+    where
+      by : (b k : Bool) (n : ℕ) (o o' : Option Reference)
+          → (if k && (capped n == 0) then line.address else option_map_or (λ (r : Reference). r.address) o 0) ≡ option_map_or (λ (r : Reference). r.address) o' 0
+          → (if k && (capped (one b + n) == 0) then line.address else option_map_or (λ (r : Reference). r.address) (if b then Some x else o) 0)
+          ≡ option_map_or (λ (r : Reference). r.address) (if b then Some x else o') 0
+      by true true n o o' same = ap (λ t. if t then line.address else x.address) (ne_eqb (capped (1 + n)) 0 (λ is. omega (arith, is)))
+      by true false n o o' same = refl
+      by false k n o o' same =
+          (let e : 0 + n ≡ n = omega arith in ap (λ m. if k && (capped m == 0) then line.address else option_map_or (λ (r : Reference). r.address) o 0) e) ∙ same
+
+  lines-grow : (before : List Reference) → line_more line.address own (heap_lines binaries before) ≡ heap_lines binaries (before ++ line ∷ [])
+  lines-grow before =
+      let all : min (capped (length before) + 1) (2 ^ 64 - 1) ≡ capped (length (before ++ line ∷ [])) = (let size = length_push before line in omega (arith, size)) in
+      let numbers : cells_holding binaries (numbers_referred (before ++ line ∷ [])) ≡ cells_holding binaries (numbers_referred before) + one own =
+      ap (cells_holding binaries) (map-append (λ (r : Reference). r.number) before (line ∷ [])) ∙ cells-as binaries (numbers_referred before) line.number in
+      let cells : min (capped (cells_holding binaries (numbers_referred before)) + one own) (2 ^ 64 - 1) ≡ capped (cells_holding binaries (numbers_referred (before ++ line ∷ []))) =
+      capped-sum (cells_holding binaries (numbers_referred before)) (one own) ∙ ap capped (sym numbers) in
+      let first = first-grows before in
+      λ i. record { lines = all i; cells = cells i; first = first i }
+
+  -- one line more of the heap
+  pub heap-line : (old mid new : Counts) (known : Bool) → mid.heap ≡ old.heap → known ≡ own → new.heap ≡ line_more line.address known mid.heap
+      → (before : List Reference) → old.heap ≡ heap_lines binaries before → new.heap ≡ heap_lines binaries (before ++ line ∷ [])
+  heap-line old mid new known same is more before had =
+      more ∙ ap (line_more line.address known) (same ∙ had) ∙ ap (λ k. line_more line.address k (heap_lines binaries before)) is ∙ lines-grow before

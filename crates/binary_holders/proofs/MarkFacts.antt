@@ -49,18 +49,18 @@ pub record Refers (text : List ℕ) : Type 0 where
   pub text_is : text ≡ hex ++ (mark whole ++ range)
 
 -- only the form of such a text is a reference to a binary
-pub refers-range : (enc : Enc) → AreForms enc → (rest : List ℕ) (n : Reference) (f : Option HeapForm) → form_of enc rest ≡ f → referred f ≡ Some n
+pub refers-range : (enc : Enc) → AreForms enc → (rest : List ℕ) (address : ℕ) (n : Reference) (f : Option HeapForm) → form_of enc rest ≡ f → referred address f ≡ Some n
     → (whole : Bool) × (range : List ℕ) × (colon ∷ rest ≡ mark whole ++ range) × (binary : ℕ) × (offset : ℕ) × (size : ℕ) × IsRange range binary offset size
-refers-range enc forms rest n (Some (RefBin binary offset size)) found refers =
+refers-range enc forms rest address n (Some (RefBin binary offset size)) found refers =
     let spelled = (forms rest (RefBin binary offset size)).0 found in (true, spelled.0, ap (λ l. colon ∷ l) spelled.1, binary, offset, size, spelled.2)
-refers-range enc forms rest n (Some (SubBin binary offset size)) found refers =
+refers-range enc forms rest address n (Some (SubBin binary offset size)) found refers =
     let spelled = (forms rest (SubBin binary offset size)).0 found in (false, spelled.0, ap (λ l. colon ∷ l) spelled.1, binary, offset, size, spelled.2)
-refers-range enc forms rest n f found refers = absurd (let no : ⊥ = cc (refers) in no)
+refers-range enc forms rest address n f found refers = absurd (let no : ⊥ = cc (refers) in no)
 
 refers-form : (enc : Enc) → AreForms enc → (text hex rest : List ℕ) (address : ℕ) (n : Reference) → hex_number hex ≡ Some address → text ≡ hex ++ colon ∷ rest
-    → referred (form_of enc rest) ≡ Some n → Refers text
+    → referred address (form_of enc rest) ≡ Some n → Refers text
 refers-form enc forms text hex rest address n is_hex is refers =
-    let spelled = refers-range enc forms rest n (form_of enc rest) refl refers in
+    let spelled = refers-range enc forms rest address n (form_of enc rest) refl refers in
     record {
       hex = hex;
       address = address;
@@ -78,11 +78,11 @@ pub refers : (enc : Enc) → AreLed → AreForms enc → (text : List ℕ) (n : 
 refers enc leds forms text n is = by (led_of text) refl
   where
     by : (o : Option (ℕ × List ℕ)) → led_of text ≡ o → Refers text
-    by None found = absurd (let e = sym (ap (option_and_then (λ (led : ℕ × List ℕ). referred (form_of enc led.1))) found) ∙ is in let no : ⊥ = cc (e) in no)
+    by None found = absurd (let e = sym (ap (option_and_then (λ (led : ℕ × List ℕ). referred led.0 (form_of enc led.1))) found) ∙ is in let no : ⊥ = cc (e) in no)
     by (Some led) found =
         let whole = (leds text led.0 led.1).0 found in
         refers-form enc forms text whole.0 led.1 led.0 n whole.1 whole.2
-        (sym (ap (option_and_then (λ (led : ℕ × List ℕ). referred (form_of enc led.1))) found) ∙ is)
+        (sym (ap (option_and_then (λ (led : ℕ × List ℕ). referred led.0 (form_of enc led.1))) found) ∙ is)
 
 -- ---- its length
 

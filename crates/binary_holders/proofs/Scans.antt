@@ -39,21 +39,21 @@ some-more enc binaries old mid new bytes rest behind more some next one = record
 -- ---- the lines of a body
 
 reference-spelled : (enc : Enc) (o : Option (ℕ × List ℕ)) → (cell : Option Cell) → cell ≡ option_map (spelled_cell enc) o → (xs : List Reference)
-    → filter_map (λ (c : Cell). referred c.form) (option_to_list cell) ++ xs ≡ option_to_list (option_and_then (λ (led : ℕ × List ℕ). referred (form_of enc led.1)) o) ++ xs
-reference-spelled enc None cell is xs = ap (λ c. filter_map (λ (c : Cell). referred c.form) (option_to_list c) ++ xs) is
+    → filter_map (λ (c : Cell). referred c.address c.form) (option_to_list cell) ++ xs ≡ option_to_list (option_and_then (λ (led : ℕ × List ℕ). referred led.0 (form_of enc led.1)) o) ++ xs
+reference-spelled enc None cell is xs = ap (λ c. filter_map (λ (c : Cell). referred c.address c.form) (option_to_list c) ++ xs) is
 reference-spelled enc (Some led) cell is xs =
-    ap (λ c. filter_map (λ (c : Cell). referred c.form) (option_to_list c) ++ xs) is
-    ∙ ap (λ l. l ++ xs) (one-more (λ (c : Cell). referred c.form) (spelled_cell enc led) [] ∙ append-nil (option_to_list (referred (form_of enc led.1))))
+    ap (λ c. filter_map (λ (c : Cell). referred c.address c.form) (option_to_list c) ++ xs) is
+    ∙ ap (λ l. l ++ xs) (one-more (λ (c : Cell). referred c.address c.form) (spelled_cell enc led) [] ∙ append-nil (option_to_list (referred led.0 (form_of enc led.1))))
 
 lines-same : (enc : Enc) (at : ℕ) (raws : List (List ℕ))
-    → filter_map (λ (cell : Cell). referred cell.form) (filter_map (cell_of enc) (map text_line (lines_from at raws))) ≡ filter_map (line_reference enc) raws
+    → filter_map (λ (cell : Cell). referred cell.address cell.form) (filter_map (cell_of enc) (map text_line (lines_from at raws))) ≡ filter_map (line_reference enc) raws
 lines-same enc at [] = refl
 lines-same enc at (raw ∷ raws) =
     let rest = map text_line (lines_from (at + length raw) raws) in
     let line = text_line (record { at = at; raw = raw }) in
-    ap (filter_map (λ (cell : Cell). referred cell.form)) (one-more (cell_of enc) line rest)
-    ∙ filter_map-append (λ (cell : Cell). referred cell.form) (option_to_list (cell_of enc line)) (filter_map (cell_of enc) rest)
-    ∙ reference-spelled enc (led_of (text_of raw)) (cell_of enc line) refl (filter_map (λ (cell : Cell). referred cell.form) (filter_map (cell_of enc) rest))
+    ap (filter_map (λ (cell : Cell). referred cell.address cell.form)) (one-more (cell_of enc) line rest)
+    ∙ filter_map-append (λ (cell : Cell). referred cell.address cell.form) (option_to_list (cell_of enc line)) (filter_map (cell_of enc) rest)
+    ∙ reference-spelled enc (led_of (text_of raw)) (cell_of enc line) refl (filter_map (λ (cell : Cell). referred cell.address cell.form) (filter_map (cell_of enc) rest))
     ∙ ap (λ l. option_to_list (line_reference enc raw) ++ l) (lines-same enc (at + length raw) raws)
     ∙ sym (one-more (line_reference enc) raw raws)
 

@@ -1,8 +1,9 @@
 -- The use of the binaries of a dump, from what was found and counted.
-use Rattle.std.proofs.Common.{◌≡◌, ℕ, ◌+◌, ◌*◌, ◌<◌, ◌≤◌, Bool, true, false, cond, List, [], ◌∷◌, ◌++◌, length, map, get_or, Option, None, Some, Result, Ok, Err, if◌then◌else◌, refl, sym, ◌∙◌, ap, arith, codes}
-use Rattle.std.specs.Prelude.{IfOk, slice_index, sum}
-use Rattle.std.specs.List.{cons_option, count_by, filter_map, flat_map, sum_by}
+use Rattle.std.proofs.Common.{◌≡◌, ℕ, ◌||◌, filter, ◌+◌, ◌*◌, ◌<◌, ◌≤◌, Bool, true, false, cond, List, [], ◌∷◌, ◌++◌, length, map, get_or, Option, None, Some, Result, Ok, Err, if◌then◌else◌, refl, sym, ◌∙◌, ap, arith, codes}
+use Rattle.std.specs.Prelude.{IfOk, nat_lt, slice_index, sum}
+use Rattle.std.specs.List.{cons_option, count_by, enumerate_from, filter_map, flat_map, sum_by}
 use Rattle.std.specs.Option.{option_map, option_and_then}
+use Rattle.std.proofs.lemmas.Bool.{ltb-false}
 use Rattle.std.proofs.lemmas.Simd.{map-map}
 use Rattle.std.proofs.lemmas.List.{get_or-map, length-map, same_lists}
 use Rattle.std.proofs.lemmas.List.Sums.{sum-map, sum_by-cons, sum_by_push}
@@ -13,19 +14,20 @@ use Rattle.dump_sections.specs.Index.{Contents, sections_in}
 use Rattle.dump_sections.specs.Lookups.{has_tag, is_named}
 use Rattle.dump_sections.specs.Sections.{Section, id_of}
 use Rattle.heap_cells.specs.Loading.{enc_of, heap_section}
+use Rattle.process_table.specs.Numbers.{binary_bytes}
 use Rattle.process_table.specs.Processes.{Process}
 use Rattle.binary_holders.specs.declared.rows.BinaryRow.{BinaryRow}
 use Rattle.binary_holders.specs.declared.rows.Holding.{Holding}
 use Rattle.binary_holders.specs.declared.targets.Binary.{Binary}
 use Rattle.binary_holders.specs.declared.stored.StoredAt.{StoredAt}
 use Rattle.binary_holders.specs.declared.counts.Counts.{Counts}
-use Rattle.binary_holders.specs.Held.{holders_of}
+use Rattle.binary_holders.specs.Held.{BinaryHeap, has_binaries, holders_of, holding_of}
 use Rattle.binary_holders.specs.declared.rows.WholeLines.{WholeLines}
 use Rattle.binary_holders.specs.HeapReferences.{numbers_referred, references, references_of}
 use Rattle.binary_holders.specs.StoredBinaries.{Stored, stored_binary, firsts, is_among, stored_at}
-use Rattle.binary_holders.specs.Usage.{Usage, binaries_in, fronts_length, heaps_length, heaps_of, lines_of, binary_row, rows_in, sized_binary, stored_in}
+use Rattle.binary_holders.specs.Usage.{Usage, binaries_in, binary_heap, held_of, fronts_length, heaps_length, heaps_of, lines_of, binary_row, rows_in, sized_binary, stored_in}
 use Rattle.binary_holders.specs.Inner.Finding.{numbers_of, stored_of}
-use Rattle.binary_holders.specs.Inner.Places.{heap_place, numbers_at, numbers_in, references_at, size_at}
+use Rattle.binary_holders.specs.Inner.Places.{binaries_at, heap_place, numbers_at, numbers_in, references_at, size_at}
 use Rattle.binary_holders.specs.Inner.Rows.{AreRows, row_at}
 use Rattle.binary_holders.specs.Inner.Counting.{HasCounted, number_at}
 use Rattle.binary_holders.proofs.CountFacts.{at-number, no_binary}
@@ -35,12 +37,14 @@ pub both-ok : {T E : Type 0} (r : Result T E) (P Q : T → Type 0) → IfOk r P 
 both-ok (Ok x) P Q p q = (p, q)
 both-ok (Err e) P Q p q = tt
 
--- a use by its five parts
-abbrev pub usage : List Holding → List BinaryRow → ℕ → ℕ → WholeLines → Usage
-usage held binaries bytes with_holders lines = record { held = held; binaries = binaries; bytes = bytes; with_holders = with_holders; lines = lines }
+-- a use by its six parts
+abbrev pub usage : List Holding → List BinaryRow → ℕ → ℕ → WholeLines → ℕ → Usage
+usage held binaries bytes with_holders lines counted =
+    record { held = held; binaries = binaries; bytes = bytes; with_holders = with_holders; lines = lines; counted = counted }
 
-pub usage-same : {h k : List Holding} {b c : List BinaryRow} {m n v w : ℕ} {l r : WholeLines} → h ≡ k → b ≡ c → m ≡ n → v ≡ w → l ≡ r → usage h b m v l ≡ usage k c n w r
-usage-same held binaries bytes with_holders lines = λ i. usage (held i) (binaries i) (bytes i) (with_holders i) (lines i)
+pub usage-same : {h k : List Holding} {b c : List BinaryRow} {m n v w x y : ℕ} {l r : WholeLines} → h ≡ k → b ≡ c → m ≡ n → v ≡ w → l ≡ r → x ≡ y
+    → usage h b m v l x ≡ usage k c n w r y
+usage-same held binaries bytes with_holders lines counted = λ i. usage (held i) (binaries i) (bytes i) (with_holders i) (lines i) (counted i)
 
 -- what is said of the heaps, by their places and by the pids
 by-pid : {X : Type 0} (f : Option Section → X) (index : Contents) (processes : List Process) (heaps : List (Option ℕ)) → heaps ≡ map (λ (p : Process). heap_place (sections_in index) p.pid) processes
@@ -73,6 +77,51 @@ lines-are dump index processes heaps is =
     flat_map-is : {X Y : Type 0} (f : X → List Y) (xs : List X) → flat_map f xs ≡ join (map f xs)
     flat_map-is f [] = refl
     flat_map-is f (x ∷ xs) = ap (λ l. f x ++ l) (flat_map-is f xs)
+
+-- what the processes have, by the places of their heaps and by their pids
+pub binaries-are : (dump : List ℕ) (index : Contents) (processes : List Process) → map (binaries_at dump index) processes ≡ map (binary_heap dump index) processes
+binaries-are dump index [] = refl
+binaries-are dump index (p ∷ ps) =
+    let heap = section-found (λ (s : Section). is_named (codes "proc_heap") (Some p.pid) s.text) index _ refl in
+    let same : references_at dump index (heap_place (sections_in index) p.pid) ≡ references_of dump index p.pid = ap (λ o. references (enc_of index.version) (body_in dump o)) heap in
+    let rest = binaries-are dump index ps in
+    λ i. record { counted = binary_bytes p; references = same i } ∷ rest i
+
+-- what the node counted for all processes is what it counted for those that are listed
+listed-counted : (binaries : List Binary) (n : ℕ) (heaps : List BinaryHeap)
+    → sum_by (λ (h : Holding). h.counted) (filter has_binaries (map (holding_of binaries) (enumerate_from n heaps))) ≡ sum_by (λ (h : BinaryHeap). h.counted) heaps
+listed-counted binaries n [] = refl
+listed-counted binaries n (heap ∷ heaps) = by (nat_lt 0 (length heap.references)) (nat_lt 0 heap.counted) refl (listed-counted binaries (n + 1) heaps)
+  where
+    one : Holding
+    one = holding_of binaries (n, heap)
+
+    later : List Holding
+    later = filter has_binaries (map (holding_of binaries) (enumerate_from (n + 1) heaps))
+
+    stated : List Holding → ℕ
+    stated = sum_by (λ (h : Holding). h.counted)
+
+    all : List BinaryHeap → ℕ
+    all = sum_by (λ (h : BinaryHeap). h.counted)
+
+    with_one : stated later ≡ all heaps → stated (one ∷ later) ≡ all (heap ∷ heaps)
+    with_one so_far = omega (arith, so_far, sum_by-cons (λ (h : Holding). h.counted) one later, sum_by-cons (λ (h : BinaryHeap). h.counted) heap heaps)
+
+    by : (a b : Bool) → nat_lt 0 heap.counted ≡ b → stated later ≡ all heaps → stated (if a || b then one ∷ later else later) ≡ all (heap ∷ heaps)
+    by true b is so_far = with_one so_far
+    by false true is so_far = with_one so_far
+    by false false is so_far =
+        let none : heap.counted ≤ 0 = ltb-false _ _ is in omega (arith, none, so_far, sum_by-cons (λ (h : BinaryHeap). h.counted) heap heaps)
+
+counted-each : (dump : List ℕ) (index : Contents) (processes : List Process) → sum_by (λ (h : BinaryHeap). h.counted) (map (binary_heap dump index) processes) ≡ sum_by binary_bytes processes
+counted-each dump index [] = refl
+counted-each dump index (p ∷ ps) =
+    omega (arith, counted-each dump index ps, sum_by-cons (λ (h : BinaryHeap). h.counted) (binary_heap dump index p) (map (binary_heap dump index) ps), sum_by-cons binary_bytes p ps)
+
+pub counted-are : (dump : List ℕ) (index : Contents) (processes : List Process) (binaries : List Binary)
+    → sum_by (λ (h : Holding). h.counted) (filter has_binaries (held_of dump index processes binaries)) ≡ sum_by binary_bytes processes
+counted-are dump index processes binaries = listed-counted binaries 0 (map (binary_heap dump index) processes) ∙ counted-each dump index processes
 
 -- they have no more bytes than may be read of the heaps
 pub fits : (index : Contents) (processes : List Process) (heaps read : List (Option ℕ)) → heaps ≡ map (λ (p : Process). heap_place (sections_in index) p.pid) processes → read ≡ heaps

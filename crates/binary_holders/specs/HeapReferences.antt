@@ -9,19 +9,20 @@ use Rattle.heap_cells.specs.Cells.{line_cells}
 use Rattle.heap_cells.specs.Loading.{enc_of, heap_section}
 use Rattle.binary_holders.specs.declared.texts.Reference.{Reference}
 
--- a reference to the binary with a number: to the whole binary, or to a part of it
-abbrev pub reference : Bool → ℕ → Reference
-reference whole number = record { number = number; whole = whole }
+-- the reference of the line with an address to the binary with a number: to the whole binary, or to a part of it
+abbrev pub reference : ℕ → Bool → ℕ → Reference
+reference address whole number = record { address = address; number = number; whole = whole }
 
--- to which binary a form refers, if it is that of a whole binary or of a part of one, whose address is a number like others
-abbrev pub referred : Option HeapForm → Option Reference
-referred (Some (RefBin number offset size)) = Some (reference true number)
-referred (Some (SubBin number offset size)) = Some (reference false number)
-referred form = None
+-- to which binary the form of the line with an address refers, if it is that of a whole
+-- binary or of a part of one, whose own address is a number like others
+abbrev pub referred : ℕ → Option HeapForm → Option Reference
+referred address (Some (RefBin number offset size)) = Some (reference address true number)
+referred address (Some (SubBin number offset size)) = Some (reference address false number)
+referred address form = None
 
 -- the references of the heap lines of a body, line by line, one for each line with such a form
 abbrev pub references : Enc → List ℕ → List Reference
-references enc body = filter_map (λ cell. referred cell.form) (line_cells enc body)
+references enc body = filter_map (λ cell. referred cell.address cell.form) (line_cells enc body)
 
 -- the numbers of the binaries to which these refer
 abbrev pub numbers_referred : List Reference → List ℕ

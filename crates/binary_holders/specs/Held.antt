@@ -1,11 +1,13 @@
 -- Which processes hold which binaries, from what their heaps refer to.
-use Rattle.std.specs.Prelude.{ℕ, Bool, ◌&&◌, not, List, map, filter, nat_lt}
+use Rattle.std.specs.Prelude.{ℕ, Bool, ◌&&◌, ◌||◌, not, List, length, map, filter, find, nat_lt}
 use Rattle.std.specs.List.{count_by, sum_by, enumerate_from}
+use Rattle.std.specs.Option.{option_map_or}
 use Rattle.text_groups.specs.Sums.{capped}
 use Rattle.binary_holders.specs.declared.rows.Holding.{Holding}
 use Rattle.binary_holders.specs.declared.rows.WholeLines.{WholeLines}
 use Rattle.binary_holders.specs.declared.targets.Binary.{Binary}
 use Rattle.binary_holders.specs.declared.texts.Reference.{Reference}
+use Rattle.binary_holders.specs.HeapReferences.{numbers_referred}
 use Rattle.binary_holders.specs.StoredBinaries.{is_among}
 
 -- whether a heap with these references holds a binary
@@ -20,20 +22,45 @@ bytes_held binaries references = sum_by (λ binary. binary.size) (filter (holds 
 abbrev pub cells_holding : List Binary → List ℕ → ℕ
 cells_holding binaries references = count_by (is_among (map (λ binary. binary.number) binaries)) references
 
--- what the process at a place holds
-abbrev pub holding_of : List Binary → ℕ × List ℕ → Holding
-holding_of binaries (process, references) = record {
-  process = process;
-  bytes = capped (bytes_held binaries references);
-  total = bytes_held binaries references;
-  count = count_by (holds references) binaries;
-  cells = cells_holding binaries references;
-}
+-- whether a line refers to one of the binaries
+abbrev pub is_known : List Binary → Reference → Bool
+is_known binaries line = is_among (map (λ binary. binary.number) binaries) line.number
 
--- the processes that hold at least one of the binaries, in their
--- order; the heap of each process is given by what it refers to
-abbrev pub holdings : List Binary → List (List ℕ) → List Holding
-holdings binaries heaps = filter (λ holding. nat_lt 0 holding.count) (map (holding_of binaries) (enumerate_from 0 heaps))
+-- the address of the first of some lines that refers to one of the binaries, or 0 if none does
+abbrev pub first_cell : List Binary → List Reference → ℕ
+first_cell binaries lines = option_map_or (λ line. line.address) (find (is_known binaries) lines) 0
+
+-- what a process has of binaries: how many bytes the node itself counted for it, and the references of its heap
+pub record BinaryHeap : Type 0 where
+  pub counted : ℕ
+  pub references : List Reference
+
+-- what the process at a place holds
+abbrev pub holding_of : List Binary → ℕ × BinaryHeap → Holding
+holding_of binaries (process, heap) =
+    let numbers = numbers_referred heap.references in
+    record {
+      process = process;
+      counted = heap.counted;
+      bytes = capped (bytes_held binaries numbers);
+      total = bytes_held binaries numbers;
+      count = count_by (holds numbers) binaries;
+      lines = length heap.references;
+      cells = cells_holding binaries numbers;
+      first = first_cell binaries heap.references;
+    }
+
+-- what each process holds, in the order of the processes
+abbrev pub holdings : List Binary → List BinaryHeap → List Holding
+holdings binaries heaps = map (holding_of binaries) (enumerate_from 0 heaps)
+
+-- whether a process holds one of the binaries
+abbrev pub is_holder : Holding → Bool
+is_holder holding = nat_lt 0 holding.count
+
+-- whether the heap of a process refers to binaries, to some of these or to others, or the node counted some for it
+abbrev pub has_binaries : Holding → Bool
+has_binaries holding = nat_lt 0 holding.lines || nat_lt 0 holding.counted
 
 -- how many heaps hold the binary with a number
 abbrev pub holders_of : List (List ℕ) → ℕ → ℕ

@@ -1,7 +1,7 @@
 // Counting what a heap refers to.
 ghost use Rattle.std.specs.Prelude.{◌≡◌, [], ◌∷◌, ◌+◌, ◌-◌, ◌<◌, ◌^◌, ◌&&◌, not, ℕ, List, ◌++◌, length, IfOk, slice_index, slice_set, min, if◌then◌else◌};
 ghost use Rattle.binary_holders.specs.declared.targets.Binary.{Binary};
-ghost use Rattle.binary_holders.specs.Inner.Counting.{HasCounted, HasRoom, Adds, AddsNumbers, KeepsRoom, counted};
+ghost use Rattle.binary_holders.specs.Inner.Counting.{HasCounted, HasRoom, Adds, AddsNumbers, KeepsRoom, counted, first_with, line_more, no_lines};
 ghost use Rattle.binary_holders.specs.Inner.Places.{numbers_in};
 ghost use Rattle.binary_holders.specs.StoredBinaries.{is_among};
 
@@ -11,15 +11,24 @@ use crate::texts::Reference;
 use std::alloc::{AllocError, Global};
 use text_groups::capped;
 
-/// What has been counted so far. Of the heap whose turn it is: how many binaries it holds, of how many bytes,
-/// and by how many lines. Of all heaps: how many lines refer to binaries as a whole.
+/// The lines of a heap that refer to binaries: how many there are, how many of them refer
+/// to one of the targets, and the address of the first of these, or 0.
+#[derive(Clone, Copy, Drop)]
+pub(crate) struct HeapLines {
+    pub lines: u64,
+    pub cells: u64,
+    pub first: u64,
+}
+
+/// What has been counted so far. Of the heap whose turn it is: how many binaries it holds,
+/// of how many bytes, and its lines. Of all heaps: how many lines refer to binaries as a whole.
 /// For each binary: the turn of the last heap that holds it, and how many heaps do.
 #[derive(Drop)]
 pub(crate) struct Counts {
     pub turn: u32,
     pub count: u64,
     pub total: u128,
-    pub cells: u64,
+    pub heap: HeapLines,
     pub lines: WholeLines,
     pub seen: Vec<u32>,
     pub holders: Vec<u32>,
@@ -36,6 +45,35 @@ fn count_if(count: u64, counts: bool) -> u64
     }
 }
 
+// A heap of which no line was counted yet.
+const NO_LINES: HeapLines = HeapLines {
+    lines: 0,
+    cells: 0,
+    first: 0,
+};
+
+// The address of the first line that refers to a target, once a line with an address was counted.
+fn first_with(heap: HeapLines, address: u64, known: bool) -> u64
+    ensures { result ≡ first_with address known heap }
+{
+    if known && heap.cells == 0 {
+        address
+    } else {
+        heap.first
+    }
+}
+
+// The lines of a heap with one more, which has an address, and refers to a target or not.
+fn line_more(heap: HeapLines, address: u64, known: bool) -> HeapLines
+    ensures { result ≡ line_more address known heap }
+{
+    HeapLines {
+        lines: heap.lines.saturating_add(1),
+        cells: count_if(heap.cells, known),
+        first: first_with(heap, address, known),
+    }
+}
+
 impl Counts {
     /// Nothing has been counted of the first heap yet, for this many binaries.
     pub fn new(alloc: Global, count: usize) -> Result<Counts, AllocError>
@@ -43,6 +81,7 @@ impl Counts {
         ensures room { IfOk result (HasRoom count) }
         ensures counted { IfOk result (λ counts. (binaries : List Binary)
             → length binaries ≡ count → HasCounted binaries [] [] counts) }
+        ensures heap { IfOk result (λ counts. counts.heap ≡ no_lines) }
         ensures lines { IfOk result (λ counts. counts.lines ≡ record { count = 0; unstored = 0 }) }
     {
         let seen = vec![in alloc; 0u32; count]?;
@@ -51,7 +90,7 @@ impl Counts {
             turn: 1,
             count: 0,
             total: 0,
-            cells: 0,
+            heap: NO_LINES,
             lines: WholeLines {
                 count: 0,
                 unstored: 0,
@@ -69,12 +108,13 @@ impl Counts {
         ensures counted { (binaries : List Binary) (heaps : List (List ℕ)) (references : List ℕ)
             → HasCounted binaries heaps references self.old
             → HasCounted binaries (heaps ++ references ∷ []) [] self.new }
+        ensures heap { self.new.heap ≡ no_lines }
         ensures lines { self.new.lines ≡ self.old.lines }
     {
         self.turn += 1;
         self.count = 0;
         self.total = 0;
-        self.cells = 0;
+        self.heap = NO_LINES;
     }
 
     // The binary at a place is held, and wasn't before. No count
@@ -89,7 +129,7 @@ impl Counts {
             (min (slice_index self.old.holders.items place + 1) (2 ^ 32 - 1)) }
         ensures count { self.new.count ≡ min (self.old.count + 1) (2 ^ 64 - 1) }
         ensures total { self.new.total ≡ min (self.old.total + size) (2 ^ 128 - 1) }
-        ensures cells { self.new.cells ≡ self.old.cells }
+        ensures heap { self.new.heap ≡ self.old.heap }
         ensures lines { self.new.lines ≡ self.old.lines }
     {
         self.seen[place] = self.turn;
@@ -103,33 +143,35 @@ impl Counts {
         requires { HasRoom (length targets.now) self.old }
         ensures room { KeepsRoom self.old self.new }
         ensures adds { AddsNumbers targets.now self.old self.new (number ∷ []) }
+        ensures heap { self.new.heap ≡ self.old.heap }
         ensures lines { self.new.lines ≡ self.old.lines }
         ensures known { result ≡ is_among (numbers_in targets.now) number }
     {
         let Some(place) = targets.place(number) else {
             return false;
         };
-        self.cells = self.cells.saturating_add(1);
         if self.seen[place] != self.turn {
             self.hold(place, targets.binaries()[place].size);
         }
         true
     }
 
-    // A line refers to a binary, as a whole or not, which is one of the targets or not.
-    fn add_line(&mut self, whole: bool, known: bool)
+    // A line has this reference, to one of the targets or not.
+    fn add_line(&mut self, reference: Reference, known: bool)
         ensures room { KeepsRoom self.old self.new }
         ensures counted { (binaries : List Binary) (heaps : List (List ℕ)) (references : List ℕ)
             → HasCounted binaries heaps references self.old
             → HasCounted binaries heaps references self.new }
+        ensures heap { self.new.heap ≡ line_more reference.address known self.old.heap }
         ensures count { self.new.lines.count
-            ≡ min (self.old.lines.count + (if whole then 1 else 0)) (2 ^ 64 - 1) }
-        ensures unstored { self.new.lines.unstored
-            ≡ min (self.old.lines.unstored + (if whole && not known then 1 else 0)) (2 ^ 64 - 1) }
+            ≡ min (self.old.lines.count + (if reference.whole then 1 else 0)) (2 ^ 64 - 1) }
+        ensures unstored { let gone = reference.whole && not known in self.new.lines.unstored
+            ≡ min (self.old.lines.unstored + (if gone then 1 else 0)) (2 ^ 64 - 1) }
     {
+        self.heap = line_more(self.heap, reference.address, known);
         self.lines = WholeLines {
-            count: count_if(self.lines.count, whole),
-            unstored: count_if(self.lines.unstored, whole && !known),
+            count: count_if(self.lines.count, reference.whole),
+            unstored: count_if(self.lines.unstored, reference.whole && !known),
         };
     }
 
@@ -140,19 +182,22 @@ impl Counts {
         ensures adds { Adds targets.now self.old self.new (reference ∷ []) }
     {
         let known = self.add_number(targets, reference.number);
-        self.add_line(reference.whole, known);
+        self.add_line(reference, known);
     }
 
-    /// What the process at a place holds, from its heap.
-    pub fn holding(&self, process: usize) -> Holding
-        ensures { result ≡ counted process self.now }
+    /// What the process at a place holds, from its heap, and from what the node counted for it.
+    pub fn holding(&self, process: usize, bytes: u128) -> Holding
+        ensures { result ≡ counted process bytes self.now }
     {
         Holding {
             process,
+            counted: bytes,
             bytes: capped(self.total),
             total: self.total,
             count: self.count,
-            cells: self.cells,
+            lines: self.heap.lines,
+            cells: self.heap.cells,
+            first: self.heap.first,
         }
     }
 }

@@ -1,11 +1,13 @@
 // What is found of processes and of binaries.
-use text_groups::Measured;
+use text_groups::{Measured, MeasuredTwice};
 
 /// What a process holds of some binaries.
 #[derive(Clone, Copy, Debug, PartialEq, Eq, Drop)]
 pub struct Holding {
     /// The place of the process in the process table, from 0.
     pub process: usize,
+    /// How many bytes of binaries the node itself counted for the process. It may be above 2^64 - 1.
+    pub counted: u128,
     /// The sizes of the binaries that it holds, together, in
     /// bytes; each counts once, and a sum above 2^64 - 1 is given as that.
     pub bytes: u64,
@@ -13,14 +15,24 @@ pub struct Holding {
     pub total: u128,
     /// How many of the binaries it holds.
     pub count: u64,
-    /// How many lines of its heap refer to one of them.
+    /// How many lines of its heap refer to a binary, to one of these or to another one.
+    pub lines: u64,
+    /// How many of these lines refer to one of the binaries.
     pub cells: u64,
+    /// The address of the first line that refers to one of them, or 0 if none does.
+    pub first: u64,
 }
 
-impl Measured for Holding {
-    ghost size = { λ holding. holding.total };
+impl MeasuredTwice for Holding {
+    ghost first = { λ holding. holding.counted };
 
-    fn size(&self) -> u128 {
+    ghost second = { λ holding. holding.total };
+
+    fn first(&self) -> u128 {
+        self.counted
+    }
+
+    fn second(&self) -> u128 {
         self.total
     }
 }

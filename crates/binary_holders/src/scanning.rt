@@ -20,6 +20,7 @@ use term_forms::{Enc, form_is_read, number_is_read};
 
 // A reference that stands for none yet.
 const NO_REFERENCE: Reference = Reference {
+    address: 0,
     number: 0,
     whole: false,
 };

@@ -10,7 +10,7 @@ use Rattle.table_sections.specs.declared.kinds.TableKind.TheVariants as kinds
 use Rattle.command_words.specs.declared.words.Cmd.{Cmd}
 use Rattle.command_words.specs.declared.words.Cmd.TheVariants.{On, Make, Trial}
 use Rattle.command_words.specs.declared.words.Query.{Query}
-use Rattle.command_words.specs.declared.words.Query.TheVariants.{Index, Info, Procs, Proc, Memory, Field, Table, Roots, Term, PeekTerm, PeekRoots, Ext, Reach, Shapes, Weigh, WeighCell, Cells, Binary, Binaries, Holders, Triage, Stacks, Links, Redact, Audit, AuditJson, AuditSettled}
+use Rattle.command_words.specs.declared.words.Query.TheVariants.{Index, Info, Procs, Proc, Memory, Field, Table, Roots, Term, PeekTerm, PeekRoots, Ext, Reach, Shapes, Weigh, WeighCell, Cells, Binary, Binaries, Holders, Triage, Stacks, Links, Redact, Audit, AuditJson, AuditSettled, Fields}
 use Rattle.command_words.specs.Budgets.{budget_of}
 use Rattle.command_words.specs.Ranges.{number_upto}
 
@@ -24,6 +24,8 @@ pub data Ask : Type 0 where
   memory : Ask
   -- the field with this key of every process
   field : List ℕ → Ask
+  -- the field with this key of every section with this tag
+  fields : List ℕ → List ℕ → Ask
   table : TableKind → Ask
   -- the roots of the process with this pid, each within this many nodes, with bad addresses marked or not
   roots : RootKind → List ℕ → ℕ → Bool → Ask
@@ -82,6 +84,7 @@ shown_query Procs = procs
 shown_query (Proc pid) = proc pid.now
 shown_query Memory = memory
 shown_query (Field key) = field key.now
+shown_query (Fields tag key) = fields tag.now key.now
 shown_query (Table kind) = table kind
 shown_query (Roots kind pid nodes marked) = roots kind pid.now nodes marked
 shown_query (Term pid addr nodes marked) = term pid.now addr nodes marked
@@ -182,6 +185,11 @@ weigh_query pid (count ∷ []) = option_map (weigh pid) (number_upto 1000 count)
 weigh_query pid (count ∷ addr ∷ []) = option_and_then (λ n. option_map (weigh_cell pid n) (hex_number addr)) (number_upto 1000 count)
 weigh_query pid words = None
 
+-- the field with a key of every section with a tag
+abbrev pub fields_query : List ℕ → List (List ℕ) → Option Ask
+fields_query tag (key ∷ []) = Some (fields tag key)
+fields_query tag words = None
+
 -- an audit is full if its last word is `full`
 abbrev pub full_of : List (List ℕ) → Option Bool
 full_of [] = Some false
@@ -203,9 +211,10 @@ process_query name word words =
     else (if bytes_eq name (codes "shapes") then shapes_query word words
     else (if bytes_eq name (codes "weigh") then weigh_query word words
     else (if bytes_eq name (codes "ext") then ext_query word words
+    else (if bytes_eq name (codes "fields") then fields_query word words
     else (if bytes_eq name (codes "audit") then audit_query audit word words
     else (if bytes_eq name (codes "audit-json") then audit_query audit_json word words
-    else (if bytes_eq name (codes "audit-settled") then audit_query audit_settled word words else None))))))))))
+    else (if bytes_eq name (codes "audit-settled") then audit_query audit_settled word words else None)))))))))))
 
 -- what a command asks with another word
 abbrev pub word_query : List ℕ → List ℕ → Option Ask

@@ -2,7 +2,7 @@
 ghost use Rattle.std.specs.Prelude.{◌≡◌, ◌<◌, ℕ, Bool, [], ◌∷◌, List, map, option_map};
 ghost use Rattle.std.specs.Option.{IfSome};
 ghost use Rattle.std.specs.String.{string_bytes};
-ghost use Rattle.command_words.specs.Command.{Ask, audit, audit_json, audit_query, audit_settled, binary, command, ext_query, full_of, holders, on, peek_query, peek_term, plain_query, process_query, roots_query, shapes_query, shown_command, shown_query, some_roots_query, stacks, term, term_query, triage, weigh_query, word_command, word_query, IsAskInRange, IsInRange, counted_shapes, is_pids};
+ghost use Rattle.command_words.specs.Command.{Ask, audit, audit_json, audit_query, audit_settled, binary, command, ext_query, full_of, holders, on, peek_query, peek_term, plain_query, process_query, roots_query, shapes_query, shown_command, shown_query, some_roots_query, stacks, term, term_query, triage, weigh_query, word_command, word_query, IsAskInRange, IsInRange, counted_shapes, is_pids, fields_query};
 ghost use Rattle.command_words.specs.Ranges.{number_upto};
 ghost use Rattle.dump_io.specs.Numbers.{hex_number};
 
@@ -49,6 +49,11 @@ pub enum Query<'a> {
     Memory,
     /// `field FILE KEY`: the field with this key of every process.
     Field {
+        key: &'a str,
+    },
+    /// `fields FILE TAG KEY`: the field with this key of every section with this tag.
+    Fields {
+        tag: &'a str,
         key: &'a str,
     },
     /// `ets FILE`, `ports FILE`, `nodes FILE`, `mods FILE`: the ETS tables,
@@ -284,7 +289,7 @@ fn stacks_query<'a>(word: &str) -> Option<Query<'a>>
     Some(Query::Stacks { count })
 }
 
-fn process_query<'a>(name: &str, word: &'a str, words: &[String]) -> Option<Query<'a>>
+fn process_query<'a>(name: &str, word: &'a str, words: &'a [String]) -> Option<Query<'a>>
     ensures reads { option_map shown_query result
         ≡ process_query name.now word.now (map string_bytes words.now) }
     ensures range { IfSome result (λ query. IsAskInRange (shown_query query)) }
@@ -298,6 +303,7 @@ fn process_query<'a>(name: &str, word: &'a str, words: &[String]) -> Option<Quer
         "shapes" => shapes_query(word, words),
         "weigh" => weigh_query(word, words),
         "ext" => ext_query(word, words),
+        "fields" => fields_query(word, words),
         "audit" => audit_query(word, words),
         "audit-json" => audit_json_query(word, words),
         "audit-settled" => audit_settled_query(word, words),
@@ -494,6 +500,20 @@ fn ext_query<'a>(pid: &'a str, words: &[String]) -> Option<Query<'a>>
     };
     let addr = hex_u64(addr.as_bytes())?;
     Some(Query::Ext { pid, addr })
+}
+
+fn fields_query<'a>(tag: &'a str, words: &'a [String]) -> Option<Query<'a>>
+    ensures reads { option_map shown_query result
+        ≡ fields_query tag.now (map string_bytes words.now) }
+    ensures range { IfSome result (λ query. IsAskInRange (shown_query query)) }
+{
+    let [key] = words else {
+        return None;
+    };
+    Some(Query::Fields {
+        tag,
+        key: key.as_str(),
+    })
 }
 
 // Whether an audit is full, from its last words.

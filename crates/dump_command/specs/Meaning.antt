@@ -1,10 +1,7 @@
 -- What each question to a dump means: its row.
 use Rattle.dump_questions.specs.Meaning.{Meaning}
-use Rattle.command_words.specs.Command.{Ask, index, info, procs, proc, memory, field, table, triage, links, audit, audit_json, audit_settled}
-use Rattle.command_words.specs.Command.{roots, term, peek_term, peek_roots, ext, reach, cells, binary}
-use Rattle.command_words.specs.Command.{shapes, weigh, weigh_cell, binaries, holders, stacks, redact}
-use Rattle.table_commands.specs.Rows.{index_row, info_row, procs_row, proc_row, memory_row, field_row, table_row}
-use Rattle.table_commands.specs.Rows.{triage_row, links_row, audit_row, audit_json_row, audit_settled_row}
+use Rattle.command_words.specs.Command.{Ask, index, info, procs, proc, memory, field, table, triage, links, audit, audit_json, audit_settled, roots, term, peek_term, peek_roots, ext, reach, cells, binary, shapes, weigh, weigh_cell, binaries, holders, stacks, redact, fields}
+use Rattle.table_commands.specs.Rows.{index_row, info_row, procs_row, proc_row, memory_row, field_row, table_row, triage_row, links_row, audit_row, audit_json_row, audit_settled_row, fields_row}
 use Rattle.heap_commands.specs.Rows.{roots_row, term_row, peek_term_row, peek_roots_row, ext_row, reach_row, cells_row, binary_row}
 use Rattle.stream_commands.specs.Rows.{shapes_row, weigh_row, weigh_cell_row, holders_row, binaries_row, stacks_row, redact_row}
 
@@ -16,6 +13,7 @@ meaning procs = procs_row
 meaning (proc pid) = proc_row pid
 meaning memory = memory_row
 meaning (field key) = field_row key
+meaning (fields tag key) = fields_row tag key
 meaning (table kind) = table_row kind
 meaning (roots kind pid nodes marked) = roots_row kind pid nodes marked
 meaning (term pid addr nodes marked) = term_row pid addr nodes marked

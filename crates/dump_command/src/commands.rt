@@ -16,8 +16,8 @@ use stream_commands::{
     run_binaries, run_holders, run_redact, run_shapes, run_stacks, run_weigh, run_weigh_cell,
 };
 use table_commands::{
-    run_audit, run_audit_json, run_audit_settled, run_field, run_index, run_info, run_links,
-    run_make, run_memory, run_proc, run_procs, run_table, run_triage, run_trial,
+    run_audit, run_audit_json, run_audit_settled, run_field, run_fields, run_index, run_info,
+    run_links, run_make, run_memory, run_proc, run_procs, run_table, run_triage, run_trial,
 };
 
 /// Runs a command from a device to the sink of its report, and returns its status.
@@ -64,6 +64,7 @@ fn run_query<D: Dumps, K: Sink>(
         Query::Proc { pid } => run_proc(dump, pid.as_bytes(), dumps, out),
         Query::Memory => run_memory(dump, dumps, out),
         Query::Field { key } => run_field(dump, key.as_bytes(), dumps, out),
+        Query::Fields { tag, key } => run_fields(dump, tag.as_bytes(), key.as_bytes(), dumps, out),
         Query::Table { kind } => run_table(dump, kind, dumps, out),
         Query::Roots {
             kind,

@@ -13,7 +13,8 @@ use Rattle.process_table.specs.Processes.{Process}
 use Rattle.dump_audit.specs.Laws.{told-at}
 use Rattle.dump_triage.specs.declared.ranked.Ranked.{Ranked}
 use Rattle.dump_triage.specs.Ranking.{AreWithin, first_rows, largest, ranked_row, rows_by}
-use Rattle.dump_triage.specs.Triage.{FitsTriage, binary_words, count_at_first, stated_number, process_state_text, state_texts, triage_of, words_in}
+use Rattle.process_table.specs.Numbers.{binary_words, stated_number}
+use Rattle.dump_triage.specs.Triage.{FitsTriage, count_at_first, process_state_text, state_texts, triage_of, words_in}
 
 -- the row of one place more
 pub rows-more : {X : Type 0} (number : ℕ × X → Option ℕ) (items : List X) (i : ℕ) (x : X) (told : Option ℕ) (before after : List Ranked) → slice_get items i ≡ Some x

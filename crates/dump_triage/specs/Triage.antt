@@ -1,10 +1,9 @@
 -- What stands out in a dump.
-use Rattle.std.specs.Prelude.{ℕ, ◌+◌, ◌-◌, ◌^◌, List, map, take, length, codes, count_by, nat_lt, unwrap_or, Option, None, Some, if◌then◌else◌}
-use Rattle.std.specs.Option.{option_and_then}
+use Rattle.std.specs.Prelude.{ℕ, ◌-◌, ◌^◌, List, map, take, length, codes, count_by, nat_lt, unwrap_or, Option, None, Some, if◌then◌else◌}
 use Rattle.std.specs.Str.{bytes_eq}
-use Rattle.dump_io.specs.Numbers.{dec_number}
 use Rattle.dump_sections.specs.Index.{Contents}
-use Rattle.section_rows.specs.Rows.{Kept, Row, cell_at, text_in}
+use Rattle.section_rows.specs.Rows.{Row, cell_at, text_in}
+use Rattle.process_table.specs.Numbers.{binary_words, stated_number}
 use Rattle.process_table.specs.Processes.{Process}
 use Rattle.dump_audit.specs.Findings.{audit_of, findings}
 use Rattle.dump_triage.specs.FindingCounts.{counts_of}
@@ -36,10 +35,6 @@ commonest_states most processes = largest most (count_at_first (state_texts proc
 
 -- ---- numbers of processes and tables
 
--- the number that the text of a cell writes
-abbrev pub stated_number : Option Kept → Option ℕ
-stated_number cell = option_and_then dec_number (text_in cell)
-
 -- the processes with the longest message queues
 abbrev pub longest_queues : ℕ → List Process → List Ranked
 longest_queues most processes = largest most (λ item. stated_number item.1.queue) processes
@@ -47,11 +42,6 @@ longest_queues most processes = largest most (λ item. stated_number item.1.queu
 -- the processes with the most memory, in bytes
 abbrev pub largest_processes : ℕ → List Process → List Ranked
 largest_processes most processes = largest most (λ item. stated_number item.1.memory) processes
-
--- how many words the binaries take to which a process refers: the sum of
--- its counts for its young and its old cells; what isn't a number counts 0
-abbrev pub binary_words : Process → ℕ
-binary_words process = unwrap_or (stated_number process.virtual_heap) 0 + unwrap_or (stated_number process.old_virtual_heap) 0
 
 -- the processes whose binaries take the most words
 abbrev pub most_binaries : ℕ → List Process → List Ranked

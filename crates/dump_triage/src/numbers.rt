@@ -1,25 +1,13 @@
 // The processes and the ETS tables by the numbers that their sections state.
 ghost use Rattle.std.specs.Prelude.{◌≡◌, ◌<◌, length, IfOk};
 ghost use Rattle.section_rows.specs.Rows.{row_at};
-ghost use Rattle.section_rows.specs.Shown.{shown_cell};
-ghost use Rattle.process_table.specs.Shown.{shown_process};
-ghost use Rattle.dump_triage.specs.Triage.{binary_words, largest_processes, largest_tables, longest_queues, most_binaries, stated_number, words_in};
+ghost use Rattle.dump_triage.specs.Triage.{largest_processes, largest_tables, longest_queues, most_binaries, words_in};
 
 use crate::ranked::{Ranked, first_rows, push_row, push_sum};
 use dump_io::dec_u64;
-use process_table::{Kept, Proc, Procs};
+use process_table::{Procs, binary_words, stated_number};
 use std::alloc::{AllocError, Global};
 use table_sections::Rows;
-
-// The number that the text of a cell writes.
-fn number_in(cell: &Option<Kept<'_>>) -> Option<u64>
-    ensures { result ≡ stated_number (shown_cell cell.now) }
-{
-    let Some(kept) = cell else {
-        return None;
-    };
-    dec_u64(kept.text)
-}
 
 // The processes with the longest message queues, at most `most`.
 pub(crate) fn longest_queues(
@@ -31,7 +19,7 @@ pub(crate) fn longest_queues(
 {
     let mut rows = Vec::new(alloc);
     for p in 0..procs.len() {
-        push_row(&mut rows, p, number_in(&procs.queue(p)))?;
+        push_row(&mut rows, p, stated_number(&procs.queue(p)))?;
     }
     first_rows(rows, most)
 }
@@ -47,18 +35,9 @@ pub(crate) fn largest_processes(
     let mut rows = Vec::new(alloc);
     for p in 0..procs.len() {
         let process = procs.at(p);
-        push_row(&mut rows, p, number_in(&process.memory))?;
+        push_row(&mut rows, p, stated_number(&process.memory))?;
     }
     first_rows(rows, most)
-}
-
-// How many words the binaries take to which a process refers, as its two counts say.
-fn binary_words(process: &Proc<'_>) -> u128
-    ensures { result ≡ binary_words (shown_process process.now) }
-{
-    let young = number_in(&process.virtual_heap).unwrap_or(0);
-    let old = number_in(&process.old_virtual_heap).unwrap_or(0);
-    u128::from(young) + u128::from(old)
 }
 
 // The processes whose binaries take the most words, at most `most`.

@@ -3,6 +3,7 @@ use Rattle.std.specs.Prelude.{ℕ, List, [], ◌∷◌, ◌++◌, length, decima
 use Rattle.std.specs.List.{flat_map}
 use Rattle.std.specs.Option.{option_and_then}
 use Rattle.dump_io.specs.Numbers.{dec_number, hexadecimal}
+use Rattle.text_groups.specs.Sums.{capped}
 use Rattle.field_lines.specs.Fields.{find_value}
 use Rattle.dump_sections.specs.Index.{Contents}
 use Rattle.process_table.specs.Processes.{Process, process_at}
@@ -13,11 +14,12 @@ use Rattle.binary_holders.specs.Usage.{Usage}
 use Rattle.report_lines.specs.Lines.{line_of, word_space, tab, total_line}
 use Rattle.report_text.specs.Tables.{process_end}
 
--- the line of a process that holds binaries: how many bytes they
--- have together, how many there are, and which process it is
+-- the line of a process that has binaries: how many bytes the node counted for it, how many bytes the stored ones have that it
+-- holds, how many these are, how many lines of its heap refer to binaries, stored or not, and which process it is
 abbrev pub held_line : Contents → List Process → Holding → List ℕ
 held_line index processes held =
-    line_of tab (codes "held" ∷ decimal held.bytes ∷ decimal held.count ∷ process_end index (process_at processes held.process))
+    line_of tab (codes "held" ∷ decimal (capped held.counted) ∷ decimal held.bytes ∷ decimal held.count ∷ decimal held.lines
+    ∷ process_end index (process_at processes held.process))
 
 -- the line of a stored binary: its size, how many processes hold
 -- it, its address, and where the header of its section begins
@@ -43,10 +45,11 @@ abbrev pub stated_line : Option ℕ → List ℕ
 stated_line None = []
 stated_line (Some bytes) = line_of word_space (codes "memory" ∷ decimal bytes ∷ [])
 
--- the lines about all binaries together, with this body of the first `memory` section, which is empty if there is none
+-- the lines about all binaries together, of which the third has what the node counted for all processes, with this body of the first `memory` section, which is empty if there is none
 abbrev pub totals : List ℕ → Usage → List ℕ
 totals memory_body usage =
-    binaries_line (length usage.binaries) usage.bytes usage.with_holders ++ (unstored_line usage.lines ++ stated_line (stated_bytes memory_body))
+    binaries_line (length usage.binaries) usage.bytes usage.with_holders
+    ++ (unstored_line usage.lines ++ (total_line (codes "counted") usage.counted ++ stated_line (stated_bytes memory_body)))
 
 -- the report of `binaries` on a dump with these sections, this body of the first
 -- `memory` section and these processes
@@ -54,9 +57,11 @@ abbrev pub binaries_report : Contents → List ℕ → List Process → Usage �
 binaries_report index memory_body processes usage =
     flat_map (held_line index processes) usage.held ++ (flat_map stored_line usage.binaries ++ totals memory_body usage)
 
--- the line of a process that holds a binary: how many lines of its heap refer to it, and which process it is
+-- the line of a process that holds a binary: how many lines of its heap refer
+-- to it, which process it is, and the address of the first of these lines
 abbrev pub holder_line : Contents → List Process → Holding → List ℕ
-holder_line index processes held = line_of tab (decimal held.cells ∷ process_end index (process_at processes held.process))
+holder_line index processes held =
+    line_of tab (decimal held.cells ∷ (process_end index (process_at processes held.process) ++ hexadecimal held.first ∷ []))
 
 -- the report of `holders` on a dump with these sections and processes
 abbrev pub holders_report : Contents → List Process → List Holding → List ℕ

@@ -13,8 +13,9 @@ use field_lines::reading::find;
 use process_table::Procs;
 use report_lines::{put_line, put_total_line};
 use report_text::process_end;
+use text_groups::capped;
 
-// Writes the line of a process that holds binaries.
+// Writes the line of a process that has binaries.
 fn put_held<K: Sink>(
     sink: &mut K,
     index: &Index,
@@ -32,8 +33,10 @@ fn put_held<K: Sink>(
         b"\t",
         &[
             Piece::Bytes(b"held"),
+            Piece::Dec(capped(held.counted)),
             Piece::Dec(held.bytes),
             Piece::Dec(held.count),
+            Piece::Dec(held.lines),
             pid,
             name,
             at,
@@ -143,17 +146,20 @@ fn put_totals<K: Sink>(sink: &mut K, memory_body: &[u8], found: &BinaryUse) -> R
 {
     put_total(sink, found)?;
     put_unstored(sink, found.lines)?;
+    put_total_line(sink, b"counted", found.counted)?;
     put_stated(sink, stated_bytes(memory_body))
 }
 
-/// Writes a line for each process that holds binaries, `held BYTES COUNT PID NAME AT`, and a line for each
-/// stored binary, `binary SIZE HOLDERS ADDR AT`, both with tabs between their parts and in the order given.
-/// Then come `binaries N bytes B held H`: how many binaries there are, the sum of their sizes, and how many
-/// of them a process holds; `unstored R of T`: how many lines of heaps refer to whole binaries, T, and how
-/// many of them to none that is stored; and `memory BYTES`, if the first field `binary` of the body of the
-/// first `memory` section, which is empty if there is none, is a decimal number below 2^64. The address of a
-/// binary is written in upper-case hex, `-` stands for a missing name, and the last part of a line is the
-/// offset of the header of the section of the process or binary.
+/// Writes a line for each process that has binaries, `held COUNTED BYTES COUNT LINES PID NAME AT`, and a line for
+/// each stored binary, `binary SIZE HOLDERS ADDR AT`, both with tabs between their parts and in the order given.
+/// COUNTED is what the node counted for the process, at most 2^64 - 1, BYTES and COUNT are those of the stored
+/// binaries that it holds, and LINES is how many lines of its heap refer to binaries, stored or not. Then come
+/// `binaries N bytes B held H`: how many binaries there are, the sum of their sizes, and how many of them a process
+/// holds; `unstored R of T`: how many lines of heaps refer to whole binaries, T, and how many of them to none that
+/// is stored; `counted BYTES`, what the node counted for all processes; and `memory BYTES`, if the first field
+/// `binary` of the body of the first `memory` section, which is empty if there is none, is a decimal number below
+/// 2^64. The address of a binary is written in upper-case hex, `-` stands for a missing name, and the last part of
+/// a line is the offset of the header of the section of the process or binary.
 ///
 /// The processes are those of the index, and what was found is on these
 /// processes, as from [`binary_use`](binary_holders::binary_use).
@@ -187,7 +193,17 @@ fn put_holder<K: Sink>(
         (holder_line index.now procs.now.processes held.now) result }
 {
     let (pid, name, at) = process_end(index, procs, held.process);
-    put_line(sink, b"\t", &[Piece::Dec(held.cells), pid, name, at])
+    put_line(
+        sink,
+        b"\t",
+        &[
+            Piece::Dec(held.cells),
+            pid,
+            name,
+            at,
+            Piece::Hex(held.first),
+        ],
+    )
 }
 
 fn put_each<K: Sink>(
@@ -207,9 +223,9 @@ fn put_each<K: Sink>(
     Ok(())
 }
 
-/// Writes a line for each process that holds a binary, `CELLS PID NAME AT` with tabs between
-/// them, in the order given: how many lines of its heap refer to the binary, the pid, the name
-/// or `-`, and the offset of the header of the process's section. Then comes `holders N`.
+/// Writes a line for each process that holds a binary, `CELLS PID NAME AT CELL` with tabs between them, in
+/// the order given: how many lines of its heap refer to the binary, the pid, the name or `-`, the offset of the
+/// header of the process's section, and the address of the first of these lines. Then comes `holders N`.
 ///
 /// The processes are those of the index, and each holding is of
 /// one of them, as from [`holders`](binary_holders::holders).

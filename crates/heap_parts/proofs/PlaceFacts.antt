@@ -12,9 +12,17 @@ use Rattle.body_lines.specs.Laws.{raws-behind}
 use Rattle.heap_cells.specs.Cells.{Cell, cell_of, spelled_cell, line_cells}
 use Rattle.heap_cells.specs.Places.{placed_line, placed_lines, place_with}
 use Rattle.heap_parts.specs.Inner.Growing.{first_with}
-use Rattle.heap_parts.specs.Places.{text_at, text_cell, ReadsTexts}
+use Rattle.heap_parts.specs.Places.{first_raw, text_cell}
 
 -- ---- lines that are read where they stand
+
+-- the text of the line that begins at a place of a body
+abbrev pub text_at : List ℕ → ℕ → List ℕ
+text_at body place = text_of (first_raw (drop place body))
+
+-- what is read at the offset of each byte of a body is the text of the line from there on
+pub record ReadsTexts (read : ℕ → List ℕ) (base : ℕ) (body : List ℕ) : Type 0 where
+  pub texts : (k : ℕ) → k < length body → read (base + k) ≡ text_at body k
 
 -- what is read where each line stands is its text
 abbrev EachReads : (ℕ → List ℕ) → ℕ → ℕ → List (List ℕ) → Type 0

@@ -20,10 +20,10 @@ use Rattle.heap_cells.specs.Cells.{Cell, line_cells}
 use Rattle.heap_cells.specs.Loading.{enc_of, heap_section, literals_section}
 use Rattle.heap_parts.specs.Inner.Growing.{first_with, IsPushed}
 use Rattle.heap_parts.specs.Parts.{IsLawful}
-use Rattle.heap_parts.specs.Places.{first_raw, text_cell, ended_text, ReadsTexts}
+use Rattle.heap_parts.specs.Places.{first_raw, text_cell, ended_text}
 use Rattle.heap_parts.proofs.FirstFacts.{has-lines}
 use Rattle.heap_parts.proofs.LineFacts.{cells-pushed, first-free}
-use Rattle.heap_parts.proofs.PlaceFacts.{first-append, first-placed, placed-count, placed-known}
+use Rattle.heap_parts.proofs.PlaceFacts.{ReadsTexts, first-append, first-placed, placed-count, placed-known}
 use Rattle.heap_parts.specs.Inner.Bodies.{span_in, span_of, AreBodyLines}
 use Rattle.heap_parts.specs.Wholes.{two_cells, cells_in, is_known, text_size, bytes_of, IsTableIn, ServesLines, HasLines}
 use Rattle.heap_parts.specs.declared.heap_lines.BodyLines.{BodyLines}

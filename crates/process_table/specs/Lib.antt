@@ -1,6 +1,7 @@
 pub mod Fields
 pub mod Inner
 pub mod Laws
+pub mod Numbers
 pub mod Processes
 pub mod Records
 pub mod Shown

@@ -41,6 +41,14 @@ value_line row = line_of tab (cell_text (cell_at row 0) ∷ cell_text (cell_at r
 abbrev pub values_report : ProcessFields → List ℕ
 values_report table = flat_map value_line table.rows ++ processes_line (length table.rows) table.repeated
 
+-- the line of a section on one of its fields: its id, where its header begins, and the field's value
+abbrev pub section_field_line : Row → List ℕ
+section_field_line row = line_of tab (cell_text (cell_at row 0) ∷ decimal row.at ∷ cell_text (cell_at row 1) ∷ [])
+
+-- the report of `fields`
+abbrev pub section_fields_report : List Row → List ℕ
+section_fields_report rows = flat_map section_field_line rows ++ total_line (codes "sections") (length rows)
+
 -- the key and the value of a field line, or `-` and the text of a plain line
 abbrev pub columns : List ℕ → List (List ℕ)
 columns text = if has_colon text then key_of text ∷ value_of text ∷ [] else codes "-" ∷ text ∷ []

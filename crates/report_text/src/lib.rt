@@ -15,6 +15,7 @@ mod info_report;
 mod link_report;
 mod process_report;
 mod refusals;
+mod section_field_report;
 mod table_report;
 mod value_report;
 
@@ -25,5 +26,6 @@ pub use link_report::put_links;
 pub use process_report::{process_end, put_processes_line, put_procs, text_of};
 pub use refusals::{Refusal, put_refusal};
 pub use report_lines::put_state;
+pub use section_field_report::put_section_fields;
 pub use table_report::{put_rows, text_at};
 pub use value_report::put_values;

@@ -14,7 +14,7 @@ use Rattle.dump_questions.specs.Laws.Reading.{told-on, HasRead-on, IsOfBodies, T
 use Rattle.stream_commands.specs.Rows.{of_holders}
 use Rattle.stream_commands.specs.Inner.Loads.{seen_held}
 
-module _ {A : Type 0} (before : List Section → List Section) (more : Contents → List (List ℕ) → ℕ) (held : List ℕ → Contents → List (List ℕ) → A)
+module _ {A : Type 0} (before : List Section → List Section) (more : Contents → List (List ℕ) → ℕ) (held : List ℕ → Contents → List Process → A)
     (show : Contents → List Process → A → List ℕ) (limits : Numbers) (index : Contents) where
   abbrev means : Meaning
   means = of_holders (record { also = before; more = more; What = A; held = held; show = show })
@@ -38,10 +38,10 @@ module _ {A : Type 0} (before : List Section → List Section) (more : Contents 
 
     -- this is what the processes hold
     pub HasRead-heard : (found : A) → Takes means limits index old new
-        → ((bytes : List ℕ) → IsIndexed bytes limits index old.now → found ≡ held bytes index (pids_of table.processes))
+        → ((bytes : List ℕ) → IsIndexed bytes limits index old.now → found ≡ held bytes index table.processes)
         → HasRead means limits index old new (seen_held index table found)
     HasRead-heard found takes told =
         HasRead-on means limits index IsOfBodies-holders old new small table process_table loaded (seen_held index table found) takes (λ bytes. refl)
         (λ bytes all. ap (seen_held index table) (told bytes all)
         ∙ told-on means limits index IsOfBodies-holders old new small table process_table loaded
-        (λ i t. record { index = i; processes = t.processes; held = held bytes i (pids_of t.processes) }) bytes all)
+        (λ i t. record { index = i; processes = t.processes; held = held bytes i t.processes }) bytes all)

@@ -34,20 +34,20 @@ pub record Held (A : Type 0) : Type 0 where
   pub processes : List Process
   pub held : A
 
--- the processes of the dump with these bytes, of which this tells what processes with these pids hold
-abbrev pub held_by : {A : Type 0} → (List ℕ → Contents → List (List ℕ) → A) → List ℕ → Held A
+-- the processes of the dump with these bytes, of which this tells what they hold
+abbrev pub held_by : {A : Type 0} → (List ℕ → Contents → List Process → A) → List ℕ → Held A
 held_by held bytes =
     let processes = (process_table bytes).processes in
-    record { index = index_of bytes; processes = processes; held = held bytes (index_of bytes) (pids_of processes) }
+    record { index = index_of bytes; processes = processes; held = held bytes (index_of bytes) processes }
 
 -- the use of the binaries of a dump, and the body of its first section on memory
 pub record Used : Type 0 where
   pub usage : Usage
   pub memory : List ℕ
 
--- the use of the binaries of the dump with these bytes and this index, by processes with these pids
-abbrev pub used_in : List ℕ → Contents → List (List ℕ) → Used
-used_in bytes i pids = record { usage = usage_of bytes i pids; memory = body_in bytes (memory_section (sections_in i)) }
+-- the use of the binaries of the dump with these bytes and this index, by these processes
+abbrev pub used_in : List ℕ → Contents → List Process → Used
+used_in bytes i processes = record { usage = usage_of bytes i processes; memory = body_in bytes (memory_section (sections_in i)) }
 
 -- the report of `binaries`
 abbrev pub used_report : Contents → List Process → Used → List ℕ
@@ -70,8 +70,8 @@ pub record HolderQuestion : Type 1 where
   pub more : Contents → List (List ℕ) → ℕ
   -- what they hold
   pub What : Type 0
-  -- what they hold in the dump with these bytes and this index, if their pids are these
-  pub held : List ℕ → Contents → List (List ℕ) → What
+  -- what these processes hold in the dump with these bytes and this index
+  pub held : List ℕ → Contents → List Process → What
   -- how that is reported
   pub show : Contents → List Process → What → List ℕ
 
@@ -130,7 +130,7 @@ holders_row addr = of_holders (record {
   also = no_body;
   more = heaps_length;
   What = List Holding;
-  held = λ bytes i pids. holders_in bytes i pids addr;
+  held = λ bytes i processes. holders_in bytes i processes addr;
   show = holders_report;
 })
 

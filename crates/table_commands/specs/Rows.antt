@@ -15,10 +15,11 @@ use Rattle.dump_sections.specs.Versions.{first_id}
 use Rattle.report_text.specs.declared.refusals.Refusal.TheVariants.{NoProcess}
 use Rattle.report_text.specs.Links.{links_report}
 use Rattle.report_text.specs.Reports.{index_report, info_report}
-use Rattle.report_text.specs.Tables.{fields_report, procs_report, rows_report, values_report}
+use Rattle.report_text.specs.Tables.{fields_report, procs_report, rows_report, section_fields_report, values_report}
 use Rattle.process_table.specs.Fields.{field_table}
 use Rattle.process_table.specs.Processes.{process_table}
 use Rattle.process_table.specs.Records.{record_sections}
+use Rattle.table_sections.specs.Fields.{section_fields, tagged}
 use Rattle.table_sections.specs.declared.kinds.TableKind.{TableKind}
 use Rattle.table_sections.specs.declared.kinds.TableKind.TheVariants.{Ets}
 use Rattle.table_sections.specs.Tables.{listed, table_of}
@@ -88,6 +89,10 @@ memory_row = of_section memory_section fields_of
 -- the field with this key of every process
 abbrev pub field_row : List ℕ → Meaning
 field_row key = of_bodies record_sections (field_table key) values_report
+
+-- the field with this key of every section with this tag
+abbrev pub fields_row : List ℕ → List ℕ → Meaning
+fields_row tag key = of_bodies (tagged tag) (section_fields tag key) section_fields_report
 
 -- a table other than that of the processes
 abbrev pub table_row : TableKind → Meaning

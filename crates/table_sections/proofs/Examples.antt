@@ -3,6 +3,7 @@ use Rattle.std.proofs.Common.{◌≡◌, ℕ, List, [], ◌∷◌, Option, None,
 use Rattle.std.specs.Prelude.{codes}
 use Rattle.section_rows.specs.Rows.{Row, text_in}
 use Rattle.table_sections.specs.declared.kinds.TableKind.TheVariants.{Ets, Nodes}
+use Rattle.table_sections.specs.Fields.{section_fields}
 use Rattle.table_sections.specs.Tables.{table_of}
 
 -- what a row shows: its offset, and the texts of its cells
@@ -19,3 +20,8 @@ node_rows : map shown (table_of Nodes (codes "=erl_crash_dump:0.5\n=hidden_node:
     ≡ (20, Some (codes "hidden_node") ∷ Some (codes "1") ∷ Some (codes "b") ∷ None ∷ None ∷ [])
     ∷ (43, Some (codes "visible_node") ∷ Some (codes "2") ∷ None ∷ None ∷ Some (codes "3") ∷ []) ∷ []
 node_rows = refl
+
+-- each section with the tag counts, with an id or without one, and its first field
+field_rows : map shown (section_fields (codes "port") (codes "Slot") (codes "=erl_crash_dump:0.5\n=port:a\nSlot: 1\nSlot: 2\n=port\nSlots: 3\n=ports:b\nSlot: 4\n=port:a\nSlot:\n"))
+    ≡ (20, Some (codes "a") ∷ Some (codes "1") ∷ []) ∷ (44, None ∷ None ∷ []) ∷ (76, Some (codes "a") ∷ Some [] ∷ []) ∷ []
+field_rows = refl

@@ -3,6 +3,7 @@ ghost use Rattle.std.specs.Prelude.{◌≡◌, ◌<◌, length, map, IfOk, All};
 ghost use Rattle.dump_sections.specs.Bodies.{section_at};
 ghost use Rattle.dump_sections.specs.Index.{sections_in};
 ghost use Rattle.dump_sections.specs.Loading.{large_fault};
+ghost use Rattle.table_sections.specs.Fields.{tagged};
 ghost use Rattle.table_sections.specs.Tables.{listed, AreListed};
 
 use crate::kinds::{TableKind, lists};
@@ -35,6 +36,25 @@ fn places(alloc: Global, index: &Index, kind: TableKind) -> Result<Vec<usize>, A
     let mut places = Vec::new(alloc);
     for i in 0..index.len() {
         if lists(kind, index.section(i).tag) {
+            places.push(i)?;
+        }
+    }
+    Ok(places)
+}
+
+// The places of the sections with a tag, from 0.
+pub(crate) fn tagged_places(
+    alloc: Global,
+    index: &Index,
+    tag: &[u8],
+) -> Result<Vec<usize>, AllocError>
+    ensures tagged { IfOk result (λ places. map (section_at index.now) places.items
+        ≡ tagged tag.now (sections_in index.now)) }
+    ensures within { IfOk result (λ places. All (λ i. i < length index.now.headers) places.items) }
+{
+    let mut places = Vec::new(alloc);
+    for i in 0..index.len() {
+        if index.section(i).tag == tag {
             places.push(i)?;
         }
     }

@@ -3,6 +3,7 @@
 //! Several reports list what is largest: processes by the bytes that they hold,
 //! binaries by their sizes. A row states its size by [`Measured`], and
 //! [`sort_most_first`] sorts rows by it; rows of the same size stay in their order.
+//! [`sort_most_first_twice`] does so by a first and a second size ([`MeasuredTwice`]).
 //!
 //! Several reports show which things are alike: processes that stand at the same place, messages that have the
 //! same shape. What is grouped states the text and the weight of each item by [`Grouped`], and [`group_texts`] returns
@@ -36,6 +37,6 @@ pub use grouped::Grouped;
 pub use grouping::group_texts;
 pub use number_groups::group_numbers;
 pub use numbers::TextNumbers;
-pub use sorting::{Measured, sort_most_first};
+pub use sorting::{Measured, MeasuredTwice, sort_most_first, sort_most_first_twice};
 pub use sums::capped;
 pub use text_group::TextGroup;

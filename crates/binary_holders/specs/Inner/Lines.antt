@@ -13,7 +13,7 @@ use Rattle.binary_holders.specs.declared.texts.Reference.{Reference}
 
 -- the reference of a text, if it is a heap line whose form is one
 abbrev pub text_reference : Enc → List ℕ → Option Reference
-text_reference enc text = option_and_then (λ led. referred (form_of enc led.1)) (led_of text)
+text_reference enc text = option_and_then (λ led. referred led.0 (form_of enc led.1)) (led_of text)
 
 -- the reference of a raw line, if it is a heap line whose form is one
 abbrev pub line_reference : Enc → List ℕ → Option Reference
@@ -35,6 +35,6 @@ mark whole = codes ":Y" ++ (if whole then letter (codes "c") else letter (codes 
 abbrev pub IsReferenceMark : List ℕ → ℕ → Type 0
 IsReferenceMark bytes k = (whole : Bool) × OccursAt bytes (mark whole) k
 
--- the reference of a range: its address, for a whole binary or for a part
-abbrev pub range_reference : Bool → List ℕ → Option Reference
-range_reference whole range = option_map (λ parts. reference whole parts.0) (range_of range)
+-- the reference of the line with an address to a range: the range's own address, for a whole binary or for a part
+abbrev pub range_reference : ℕ → Bool → List ℕ → Option Reference
+range_reference address whole range = option_map (λ parts. reference address whole parts.0) (range_of range)

@@ -4,13 +4,16 @@ use Rattle.std.specs.BTreeMap.{BTreeMap, get}
 use Rattle.std.specs.List.{sum_by}
 use Rattle.std.specs.Ordering.{nat_cmp}
 use Rattle.dump_sections.specs.Bodies.{section_in, body_in, body_size}
-use Rattle.dump_sections.specs.Index.{Contents}
+use Rattle.dump_sections.specs.Index.{Contents, sections_in}
 use Rattle.dump_sections.specs.Lookups.{is_named}
 use Rattle.dump_sections.specs.Sections.{Section}
 use Rattle.heap_cells.specs.Loading.{enc_of}
+use Rattle.process_table.specs.Numbers.{binary_bytes}
+use Rattle.process_table.specs.Processes.{Process}
 use Rattle.binary_holders.specs.declared.targets.Binary.{Binary}
 use Rattle.binary_holders.specs.declared.texts.Reference.{Reference}
 use Rattle.binary_holders.specs.HeapReferences.{numbers_referred, references}
+use Rattle.binary_holders.specs.Held.{BinaryHeap}
 
 -- the place of a number among others, if no other place has it; `None` if it isn't among them
 abbrev pub IsOnlyPlace : List ℕ → ℕ → Option ℕ → Type 0
@@ -43,6 +46,11 @@ references_at dump index place = references (enc_of index.version) (body_in dump
 -- the numbers of the binaries to which the heap at a place refers
 abbrev pub numbers_at : List ℕ → Contents → Option ℕ → List ℕ
 numbers_at dump index place = numbers_referred (references_at dump index place)
+
+-- what a process has of binaries, by the place of its heap
+abbrev pub binaries_at : List ℕ → Contents → Process → BinaryHeap
+binaries_at dump index process =
+    record { counted = binary_bytes process; references = references_at dump index (heap_place (sections_in index) process.pid) }
 
 -- how many bytes the heap at a place has
 abbrev pub size_at : Contents → Option ℕ → ℕ

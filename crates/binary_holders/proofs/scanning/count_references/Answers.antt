@@ -5,7 +5,7 @@ use Rattle.binary_holders.proofs.CountFacts.{Adds-as, Adds-then, keeps-then, roo
 use Rattle.binary_holders.proofs.scanning.count_references.Goals as goal
 
 abbrev no_reference : Reference
-no_reference = record { number = 0; whole = false }
+no_reference = record { address = 0; number = 0; whole = false }
 
 pub loop-reference-preserved : goal.loop-reference-preserved
 loop-reference-preserved c =

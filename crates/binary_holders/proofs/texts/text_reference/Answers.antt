@@ -7,12 +7,12 @@ use Rattle.binary_holders.proofs.texts.text_reference.Goals as goal
 
 pub returns-in-Some : goal.returns-in-Some
 returns-in-Some c =
-    let spelled = strip_prefix_is Decides-eqb c.in_ok-spelled.spelled.now (codes "Yc") (Some c.in-Some.range) c.in-Some.ensures.cases in
+    let spelled = strip_prefix_is Decides-eqb c.in_ok-address.spelled.now (codes "Yc") (Some c.in-Some.range) c.in-Some.ensures.cases in
     c.range_reference.ensures
-    ∙ sym (whole-spelled c.args.enc c.args.text.now c.in_ok-spelled.spelled.now c.in_ok-spelled.field-0-0 (sym c.in_ok-spelled.ensures.exact) c.in-Some.range.now spelled)
+    ∙ sym (whole-spelled c.args.enc c.args.text.now c.in_ok-address.spelled.now c.in_ok-address.address (sym c.in_ok-address.ensures.exact) c.in-Some.range.now spelled)
 
 pub returns : goal.returns
 returns c =
-    let spelled = strip_prefix_is Decides-eqb c.in_ok-spelled.spelled.now (codes "Ys") (Some c.in_ok-range.range) c.in_ok-range.ensures.cases in
+    let spelled = strip_prefix_is Decides-eqb c.in_ok-address.spelled.now (codes "Ys") (Some c.in_ok-range.range) c.in_ok-range.ensures.cases in
     c.range_reference-2.ensures
-    ∙ sym (part-spelled c.args.enc c.args.text.now c.in_ok-spelled.spelled.now c.in_ok-spelled.field-0-0 (sym c.in_ok-spelled.ensures.exact) c.in_ok-range.range.now spelled)
+    ∙ sym (part-spelled c.args.enc c.args.text.now c.in_ok-address.spelled.now c.in_ok-address.address (sym c.in_ok-address.ensures.exact) c.in_ok-range.range.now spelled)

@@ -1,4 +1,4 @@
-use Rattle.std.proofs.Common.{◌≡◌, length, map, ◌∙◌, ap, subst}
+use Rattle.std.proofs.Common.{◌≡◌, length, map, filter, ◌∙◌, ap, subst}
 use Rattle.std.specs.Prelude.{nat_lt}
 use Rattle.std.specs.List.{count_by, sum_by}
 use Rattle.std.proofs.lemmas.Result.{IfOk-weaker}
@@ -7,11 +7,11 @@ use Rattle.binary_holders.specs.declared.rows.BinaryRow.{BinaryRow}
 use Rattle.binary_holders.specs.declared.rows.Holding.{Holding}
 use Rattle.binary_holders.specs.declared.targets.Binary.{Binary}
 use Rattle.text_groups.specs.Sums.{capped}
-use Rattle.binary_holders.specs.Held.{holdings, whole_lines}
+use Rattle.binary_holders.specs.Held.{has_binaries, whole_lines}
 use Rattle.text_groups.specs.Sorting.{most_first}
-use Rattle.binary_holders.specs.Usage.{heaps_of, lines_of, rows_in}
+use Rattle.binary_holders.specs.Usage.{binaries_in, heaps_of, held_of, lines_of, most_counted, rows_in}
 use Rattle.binary_holders.specs.Inner.Rows.{AreRows}
-use Rattle.binary_holders.proofs.UsingFacts.{both-ok, rows-are, same-sizes, usage-same}
+use Rattle.binary_holders.proofs.UsingFacts.{both-ok, counted-are, rows-are, same-sizes, usage-same}
 use Rattle.binary_holders.proofs.using.binary_use.Goals as goal
 
 pub rows_of-requires-clause-sizes : goal.rows_of-requires-clause-sizes
@@ -44,12 +44,17 @@ returns-clause-found g c =
     let heaps = heaps_of dump index pids in
     let told_rows : rows ≡ rows_in dump index heaps =
     rows-are dump index heaps list targets holders counts rows stored.stored sizes (had.counted dump told) c.as_slice-holders.ensures.value found in
-    usage-same (all.0 ∙ ap (most_first (λ (h : Holding). h.total)) (had.held dump told ∙ ap (λ l. holdings l heaps) sizes))
+    let processes = c.args.procs.now.processes in
+    let held : c.in_ok-held.held.items ≡ filter has_binaries (held_of dump index processes (binaries_in dump index)) =
+    had.held dump told ∙ ap (λ l. filter has_binaries (held_of dump index processes l)) sizes in
+    usage-same (all.0 ∙ ap most_counted held)
     (all.1.0 ∙ ap (most_first (λ (r : BinaryRow). r.size)) told_rows)
     (all.1.1.0 ∙ c.capped-bytes.ensures ∙ ap capped c.total.ensures ∙ ap (λ l. capped (sum_by (λ (b : Binary). b.size) l)) sizes)
     (all.1.1.1.0 ∙ ap (count_by (λ (r : BinaryRow). nat_lt 0 r.holders)) told_rows)
-    (all.1.1.1.1 ∙ had.lines dump told ∙ ap (λ l. whole_lines l (lines_of dump index pids)) sizes))
-    (both-ok c.sorted.result _ _ sorted.held (both-ok c.sorted.result _ _ sorted.binaries (both-ok c.sorted.result _ _ sorted.bytes (both-ok c.sorted.result _ _ sorted.with_holders sorted.lines))))
+    (all.1.1.1.1.0 ∙ had.lines dump told ∙ ap (λ l. whole_lines l (lines_of dump index pids)) sizes)
+    (all.1.1.1.1.1 ∙ ap (λ l. capped (sum_by (λ (h : Holding). h.counted) l)) held ∙ ap capped (counted-are dump index processes (binaries_in dump index))))
+    (both-ok c.sorted.result _ _ sorted.held (both-ok c.sorted.result _ _ sorted.binaries (both-ok c.sorted.result _ _ sorted.bytes
+    (both-ok c.sorted.result _ _ sorted.with_holders (both-ok c.sorted.result _ _ sorted.lines sorted.counted)))))
 
 pub returns-clause-named : goal.returns-clause-named
 returns-clause-named g c = c.sorted.ensures.named (length c.args.procs.now.processes) c.in_ok-held.ensures.named

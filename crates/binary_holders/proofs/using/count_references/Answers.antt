@@ -1,4 +1,4 @@
-use Rattle.std.proofs.Common.{◌≡◌, [], length, map, ◌∙◌, ap, subst}
+use Rattle.std.proofs.Common.{◌≡◌, [], length, map, filter, ◌∙◌, ap, subst}
 use Rattle.std.specs.Prelude.{All}
 use Rattle.std.specs.List.{flat_map}
 use Rattle.dump_io.specs.Laws.Reads.{ReadsAtMost-within}
@@ -8,8 +8,8 @@ use Rattle.process_table.specs.Processes.{Process}
 use Rattle.binary_holders.specs.Held.{holdings, whole_lines}
 use Rattle.binary_holders.specs.Usage.{NamesProcess}
 use Rattle.binary_holders.specs.Inner.Places.{heap_place, numbers_at, references_at}
-use Rattle.binary_holders.specs.Inner.Counting.{HasCounted}
-use Rattle.binary_holders.proofs.UsingFacts.{fits, heaps-are, lines-are}
+use Rattle.binary_holders.specs.Inner.Counting.{HasCounted, is_listed}
+use Rattle.binary_holders.proofs.UsingFacts.{binaries-are, fits, heaps-are, lines-are}
 use Rattle.binary_holders.proofs.using.count_references.Goals as goal
 
 pub returns-in_err-held-clause-reads : goal.returns-in_err-held-clause-reads
@@ -23,8 +23,7 @@ returns-clause-reads g c =
 pub returns-clause-held : goal.returns-clause-held
 returns-clause-held g c = λ dump is.
     c.in_ok-held.ensures.held dump is
-    ∙ ap (λ l. holdings c.args.targets.now (map (numbers_at dump c.args.index.now) l)) c.as_slice.ensures.value
-    ∙ ap (holdings c.args.targets.now) (heaps-are dump c.args.index.now c.args.procs.now.processes c.in_ok-heaps.heaps.items c.in_ok-heaps.ensures.places)
+    ∙ ap (λ l. filter (is_listed c.args.listed) (holdings c.args.targets.now l)) (binaries-are dump c.args.index.now c.args.procs.now.processes)
 
 pub returns-clause-counted : goal.returns-clause-counted
 returns-clause-counted g c = λ dump is.

@@ -4,4 +4,4 @@ use Rattle.binary_holders.proofs.using.sorted.Goals as goal
 
 pub returns-clause-named : goal.returns-clause-named
 returns-clause-named c = λ count named.
-    All-permutation (NamesProcess count) c.args.held.items c.sort_most_first.new.rows.items c.sort_most_first.ensures.permutation named
+    All-permutation (NamesProcess count) c.args.held.items c.sort_most_first_twice.new.rows.items c.sort_most_first_twice.ensures.permutation named

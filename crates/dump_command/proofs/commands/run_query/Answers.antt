@@ -1,5 +1,5 @@
 use Rattle.std.proofs.Common.{sym, ◌∙◌, ap}
-use Rattle.command_words.specs.Command.{shown_query, cells, ext, field, peek_roots, peek_term, proc, reach, roots, shapes, term, weigh, weigh_cell}
+use Rattle.command_words.specs.Command.{shown_query, cells, ext, field, fields, peek_roots, peek_term, proc, reach, roots, shapes, term, weigh, weigh_cell}
 use Rattle.dump_command.proofs.Asked.{runs-asked}
 use Rattle.dump_command.proofs.commands.run_query.Goals as goal
 
@@ -20,6 +20,12 @@ returns-in-Memory g c = runs-asked (ap shown_query c.in-Memory.is) c.run_memory.
 
 pub returns-in-Field : goal.returns-in-Field
 returns-in-Field g c = runs-asked (ap shown_query c.in-Field.is ∙ ap (λ p. field p) (sym c.as_bytes-in-Field.ensures.value)) c.run_field.ensures
+
+pub returns-in-Fields : goal.returns-in-Fields
+returns-in-Fields g c =
+    let tag = ap (λ t. fields t c.in-Fields.key.now) (sym c.as_bytes-in-Fields.ensures.value) in
+    let key = ap (λ k. fields c.as_bytes-in-Fields.result.now k) (sym c.as_bytes-in-Fields-2.ensures.value) in
+    runs-asked (ap shown_query c.in-Fields.is ∙ tag ∙ key) c.run_fields.ensures
 
 pub returns-in-Table : goal.returns-in-Table
 returns-in-Table g c = runs-asked (ap shown_query c.in-Table.is) c.run_table.ensures

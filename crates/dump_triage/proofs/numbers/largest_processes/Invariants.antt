@@ -1,6 +1,6 @@
 use Rattle.std.proofs.Common.{◌≡◌, take}
 use Rattle.dump_triage.specs.Ranking.{rows_by}
-use Rattle.dump_triage.specs.Triage.{stated_number}
+use Rattle.process_table.specs.Numbers.{stated_number}
 use Rattle.dump_triage.proofs.numbers.largest_processes.Given as goal
 
 -- the rows of the places so far

@@ -1,6 +1,6 @@
 use Rattle.std.proofs.Common.{◌≡◌, take, Some}
 use Rattle.dump_triage.specs.Ranking.{rows_by}
-use Rattle.dump_triage.specs.Triage.{binary_words}
+use Rattle.process_table.specs.Numbers.{binary_words}
 use Rattle.dump_triage.proofs.numbers.most_binaries.Given as goal
 
 -- the rows of the places so far

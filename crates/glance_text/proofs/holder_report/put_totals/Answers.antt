@@ -9,6 +9,12 @@ returns-in_err-put_total g c = Puts-stopped _ c.from_residual.ensures.0 c.in_err
 pub returns-in_err-put_unstored : goal.returns-in_err-put_unstored
 returns-in_err-put_unstored g c = Puts-then c.in_ok-put_total.ensures (Puts-stopped _ c.from_residual-in_err-put_unstored.ensures.0 c.in_err-put_unstored.ensures)
 
+pub returns-in_err-put_total_line : goal.returns-in_err-put_total_line
+returns-in_err-put_total_line g c =
+    Puts-then c.in_ok-put_total.ensures (Puts-then c.in_ok-put_unstored.ensures
+    (Puts-stopped _ c.from_residual-in_err-put_total_line.ensures.0 c.in_err-put_total_line.ensures))
+
 pub returns : goal.returns
 returns g c =
-    Puts-then c.in_ok-put_total.ensures (Puts-then c.in_ok-put_unstored.ensures (Puts-as (ap stated_line c.stated_bytes.ensures) c.put_stated.ensures))
+    Puts-then c.in_ok-put_total.ensures (Puts-then c.in_ok-put_unstored.ensures
+    (Puts-then c.in_ok-put_total_line.ensures (Puts-as (ap stated_line c.stated_bytes.ensures) c.put_stated.ensures)))

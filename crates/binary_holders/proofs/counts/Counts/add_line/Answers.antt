@@ -10,5 +10,4 @@ returns-clause-counted c = λ binaries heaps references had. record {
   holders = had.holders;
   count = had.count;
   total = had.total;
-  cells = had.cells;
 }

@@ -19,15 +19,13 @@ returns-then-index-self-clause-adds c =
     (λ held. c.if-index-self.true (get_or_read c.args.self.now.seen.items p c.index.result.now inside c.index.ensures 0 ∙ held))
     h.turn h.seen h.holders h.count
     (h.total ∙ ap (λ m. min (c.args.self.now.total + m) (2 ^ 128 - 1)) size)
-    (h.cells ∙ c.saturating_add-self.ensures)
 
 pub returns-else-index-self-clause-adds : goal.returns-else-index-self-clause-adds
 returns-else-index-self-clause-adds c =
     let p = c.in-Some.place in
     let inside : p < length c.args.self.now.seen.items = omega (arith, c.in-Some.ensures.0, length-numbers c.args.targets.now, c.requires.seen) in
-    add-again c.args.targets.now c.args.number p c.in-Some.ensures c.args.self.now c.saturating_add-self.result
+    add-again c.args.targets.now c.args.number p c.in-Some.ensures c.args.self.now
     (sym (get_or_read c.args.self.now.seen.items p c.index.result.now inside c.index.ensures 0) ∙ c.if-index-self.false)
-    c.saturating_add-self.ensures
 
 pub returns-in_default-clause-known : goal.returns-in_default-clause-known
 returns-in_default-clause-known c = sym (unknown c.args.targets.now c.args.number c.in_default.ensures)

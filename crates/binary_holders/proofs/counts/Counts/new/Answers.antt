@@ -1,6 +1,7 @@
 use Rattle.std.proofs.Common.{◌≡◌, length, refl, sym, ◌∙◌, ap}
 use Rattle.std.specs.Prelude.{slice_index, replicate}
 use Rattle.std.proofs.lemmas.List.{length-replicate}
+use Rattle.binary_holders.specs.Inner.Counting.{no_lines}
 use Rattle.binary_holders.proofs.CountFacts.{nothing-counted, zeros-at}
 use Rattle.binary_holders.proofs.counts.Counts.new.Goals as goal
 
@@ -12,11 +13,11 @@ returns-clause-counted c = λ binaries count.
       turn = 1;
       count = 0;
       total = 0;
-      cells = 0;
+      heap = no_lines;
       lines = record { count = 0; unstored = 0 };
       seen = c.in_ok-seen.seen;
       holders = c.in_ok-holders.holders;
-    }) refl refl refl refl
+    }) refl refl refl
     (ap length seen ∙ length-replicate c.args.count 0 ∙ sym count)
     (ap length holders ∙ length-replicate c.args.count 0 ∙ sym count)
     (λ k. ap (λ l. slice_index l k) seen ∙ zeros-at c.args.count k)
