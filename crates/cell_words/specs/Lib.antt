@@ -1,3 +1,4 @@
+pub mod Binaries
 pub mod Kinds
 pub mod Laws
 pub mod Words

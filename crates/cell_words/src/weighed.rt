@@ -1,5 +1,6 @@
 // Cells that have words.
-ghost use Rattle.std.specs.Prelude.{◌≡◌, ℕ, ◌<◌, ◌≤◌, List, length};
+ghost use Rattle.std.specs.Prelude.{◌≡◌, ℕ, ◌<◌, ◌≤◌, Bool, List, length};
+ghost use Rattle.cell_words.specs.Binaries.{binary_at};
 ghost use Rattle.cell_words.specs.Words.{words_at};
 
 use cell_graphs::CellGraph;
@@ -9,6 +10,9 @@ pub trait Weighed: CellGraph {
     /// For each cell, in order, how many words it has.
     ghost words: { Self → List ℕ };
 
+    /// For each cell, in order, whether it refers to a binary: whether it is a RefBin or a SubBin.
+    ghost binaries: { Self → List Bool };
+
     /// How many of the cells are the heap's own.
     ghost own: { Self → ℕ };
 
@@ -16,6 +20,11 @@ pub trait Weighed: CellGraph {
     fn words(&self, cell: u32) -> u64
         requires { cell < length (Self.graph self.now) }
         ensures { result ≡ words_at (words self.now) cell };
+
+    /// Whether a cell refers to a binary: whether it is a RefBin or a SubBin.
+    fn is_binary(&self, cell: u32) -> bool
+        requires { cell < length (Self.graph self.now) }
+        ensures { result ≡ binary_at (binaries self.now) cell };
 
     /// How many of the cells are the heap's own. They come first.
     fn own(&self) -> u32

@@ -1,6 +1,7 @@
 // What leads where in a heap.
 ghost use Rattle.std.specs.Prelude.{◌≡◌, ◌<◌, ◌≤◌, ◌^◌, List, length, Some, slice_get, position, ◌==◌, IfOk, IfErr, IfSome};
 ghost use Rattle.cell_graphs.specs.Graphs.{LeadsWithin};
+ghost use Rattle.cell_words.specs.Binaries.{binaries_among};
 ghost use Rattle.cell_records.specs.Order.{AreAllFirst, AreRanked};
 ghost use Rattle.dump_io.specs.Dumps.{ReadsAtMost, IfTold};
 ghost use Rattle.dump_io.specs.Faults.{IsReadCauseOf};
@@ -22,7 +23,7 @@ use crate::settling::{Ordered, Settled, settle};
 use cell_graphs::CellGraph;
 use cell_parts::Kinded;
 use cell_records::{Kind, Ranks, number_of};
-use cell_words::Weighed;
+use cell_words::{Weighed, is_binary_kind};
 use dump_io::{Dumps, ReadFault};
 use dump_sections::Index;
 use std::alloc::{AllocError, Global};
@@ -249,10 +250,16 @@ impl Kinded for Skeleton {
 impl Weighed for Skeleton {
     ghost words = { λ s. s.words };
 
+    ghost binaries = { λ s. binaries_among s.kinds };
+
     ghost own = { λ s. s.own };
 
     fn words(&self, cell: u32) -> u64 {
         u64::from(self.parts[cell as usize].words)
+    }
+
+    fn is_binary(&self, cell: u32) -> bool {
+        is_binary_kind(Kinded::kind(self, cell))
     }
 
     fn own(&self) -> u32 {

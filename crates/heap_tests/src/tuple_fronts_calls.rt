@@ -99,12 +99,12 @@ fn tuples_have_fronts(rt: HostRuntime) -> Result<(), Fail> {
                 &[1, 2, 4],
                 "H10 N ;p<0.1> P<0.1.0> I-1 ;I1 H50 ;",
             ),
-            // Tuples alone have fronts, and malformed cells none, wherever they fail.
+            // Tuples and lists alone have fronts, and malformed cells none, wherever they fail.
             (
                 "10:lH10|N\n20:t0:\n30:t2:I1\n40:t9:I1,I2,I3,I4,I5,I6,I7,I8,X\n50:Mf1:H20:I1\n60:t1:I7\n",
                 "",
                 &[0, 1, 2, 3, 4, 5],
-                ";;;;;I7 ;",
+                "H10 N ;;;;;I7 ;",
             ),
             ("10:t1:N\n", "", &[], ""),
             ("", "10:t1:N\n", &[0], "N ;"),

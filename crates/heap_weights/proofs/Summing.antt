@@ -1,5 +1,5 @@
 -- The cells of all parts and those of several are together all that are held.
-use Rattle.std.proofs.Common.{◌≡◌, ℕ, zero, suc, ◌+◌, ◌<◌, ◌≤◌, ◌==◌, List, length, refl, ◌∙◌, ap, inl, inr, arith}
+use Rattle.std.proofs.Common.{◌≡◌, ℕ, zero, suc, ◌+◌, ◌<◌, ◌≤◌, ◌==◌, Bool, List, length, refl, ◌∙◌, ap, inl, inr, arith}
 use Rattle.std.specs.List.{sum_by}
 use Rattle.std.proofs.lemmas.Bool.{cases_order, eq-eqb, ne_eqb}
 use Rattle.std.proofs.lemmas.List.Sums.{sum_by-cons}
@@ -98,11 +98,11 @@ module _ (holders : ℕ → Holder) where
       let more : counts 0 count (suc n) ≡ counts 0 count n + once 0 count (holders n) = counts-more 0 count n in
       omega (arith, before, here, more)
 
-  sum-counts : (words : List ℕ) (n part count : ℕ) → sum_by (λ (weight : Weight). weight.cells) (weights_from part words holders n count) ≡ counts part count n
-  sum-counts words n part zero = refl
-  sum-counts words n part (suc count) =
-      sum_by-cons (λ (weight : Weight). weight.cells) (weight_of words holders (Part part) n) (weights_from (suc part) words holders n count)
-      ∙ ap (λ k. count_of (Part part) n + k) (sum-counts words n (suc part) count)
+  sum-counts : (words : List ℕ) (binaries : List Bool) (n part count : ℕ) → sum_by (λ (weight : Weight). weight.cells) (weights_from part words binaries holders n count) ≡ counts part count n
+  sum-counts words binaries n part zero = refl
+  sum-counts words binaries n part (suc count) =
+      sum_by-cons (λ (weight : Weight). weight.cells) (weight_of words binaries holders (Part part) n) (weights_from (suc part) words binaries holders n count)
+      ∙ ap (λ k. count_of (Part part) n + k) (sum-counts words binaries n (suc part) count)
 
 -- ---- each holder is one of those that are counted
 
@@ -114,12 +114,12 @@ module _ (graph : Graph) (within : LeadsWithin graph) (roots : List ℕ) where
       let alone = (alone-is graph within n roots k).0 is in
       omega (arith, slice_get_within roots k alone.reaches.cell alone.reaches.here)
 
-  pub add-up : (words : List ℕ) (own : ℕ) (shares : Shares) → AreShares graph words own roots shares
+  pub add-up : (words : List ℕ) (binaries : List Bool) (own : ℕ) (shares : Shares) → AreShares graph words binaries own roots shares
       → sum_by (λ (weight : Weight). weight.cells) shares.alone.items + shares.shared.cells ≡ shares.reached.cells
-  add-up words own shares are =
+  add-up words binaries own shares are =
       let holders : ℕ → Holder = holder_of graph roots in
       let alone : sum_by (λ (weight : Weight). weight.cells) shares.alone.items ≡ counts holders 0 (length roots) own =
-      ap (sum_by (λ (weight : Weight). weight.cells)) are.alone ∙ sum-counts holders words own 0 (length roots) in
+      ap (sum_by (λ (weight : Weight). weight.cells)) are.alone ∙ sum-counts holders words binaries own 0 (length roots) in
       let shared : shares.shared.cells ≡ count_of holders Several own = ap (λ (weight : Weight). weight.cells) are.shared in
       let reached : shares.reached.cells ≡ count_below (λ k. is_held (holders k)) own = ap (λ (weight : Weight). weight.cells) are.reached in
       let all : counts holders 0 (length roots) own + count_of holders Several own ≡ count_below (λ k. is_held (holders k)) own =

@@ -1,5 +1,5 @@
 -- What it means that parts hold a cell, and that their shares add up.
-use Rattle.std.specs.Prelude.{◌≡◌, ℕ, ◌+◌, ◌<◌, ◌↔◌, List, Some, slice_get}
+use Rattle.std.specs.Prelude.{◌≡◌, ℕ, ◌+◌, ◌<◌, ◌↔◌, Bool, List, Some, slice_get}
 use Rattle.std.specs.List.{sum_by}
 use Rattle.cell_graphs.specs.Graphs.{Graph, LeadsWithin}
 use Rattle.cell_graphs.specs.Reached.{Reached}
@@ -40,5 +40,5 @@ pub record PartsHold : Type 0 where
 -- each cell that a part reaches is counted once, for a part or as shared
 abbrev pub SharesAddUp : Type 0
 SharesAddUp = (graph : Graph) → LeadsWithin graph
-    → (words : List ℕ) (own : ℕ) (roots : List ℕ) (shares : Shares) → AreShares graph words own roots shares
+    → (words : List ℕ) (binaries : List Bool) (own : ℕ) (roots : List ℕ) (shares : Shares) → AreShares graph words binaries own roots shares
     → sum_by (λ weight. weight.cells) shares.alone.items + shares.shared.cells ≡ shares.reached.cells

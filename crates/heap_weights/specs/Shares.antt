@@ -1,7 +1,8 @@
 -- How many cells and words are held.
-use Rattle.std.specs.Prelude.{◌≡◌, ℕ, zero, suc, ◌+◌, ◌==◌, Bool, true, false, List, [], ◌∷◌, length}
+use Rattle.std.specs.Prelude.{◌≡◌, ℕ, zero, suc, ◌+◌, ◌==◌, ◌&&◌, Bool, true, false, List, [], ◌∷◌, length}
 use Rattle.cell_graphs.specs.Counts.{count_below}
 use Rattle.cell_graphs.specs.Graphs.{Graph}
+use Rattle.cell_words.specs.Binaries.{binary_at}
 use Rattle.cell_words.specs.Words.{words_at}
 use Rattle.heap_weights.specs.declared.holders.Holder.{Holder}
 use Rattle.heap_weights.specs.declared.holders.Holder.TheVariants.{Several, Part}
@@ -20,35 +21,39 @@ abbrev pub words_below : List ℕ → (ℕ → Bool) → ℕ → ℕ
 words_below words set zero = 0
 words_below words set (suc n) = words_below words set n + words_if (set n) (words_at words n)
 
--- how many of the first n cells are in a set, and how many words these have
-abbrev pub weight_below : List ℕ → (ℕ → Bool) → ℕ → Weight
-weight_below words set n = record { cells = count_below set n; words = words_below words set n }
+-- how many of the first n cells are in a set, how many words these have, and how many of them refer to binaries
+abbrev pub weight_below : List ℕ → List Bool → (ℕ → Bool) → ℕ → Weight
+weight_below words binaries set n = record {
+  cells = count_below set n;
+  words = words_below words set n;
+  binaries = count_below (λ k. set k && binary_at binaries k) n;
+}
 
 -- whether two holders are the same
 abbrev pub is_same : Holder → Holder → Bool
 is_same a b = label_of a == label_of b
 
 -- the cells of one holder among the first n
-abbrev pub weight_of : List ℕ → (ℕ → Holder) → Holder → ℕ → Weight
-weight_of words holders holder n = weight_below words (λ k. is_same holder (holders k)) n
+abbrev pub weight_of : List ℕ → List Bool → (ℕ → Holder) → Holder → ℕ → Weight
+weight_of words binaries holders holder n = weight_below words binaries (λ k. is_same holder (holders k)) n
 
 -- what each of so many parts alone holds, given the number of the first
-abbrev pub weights_from : ℕ → List ℕ → (ℕ → Holder) → ℕ → ℕ → List Weight
-weights_from part words holders n zero = []
-weights_from part words holders n (suc count) =
-    weight_of words holders (Part part) n ∷ weights_from (suc part) words holders n count
+abbrev pub weights_from : ℕ → List ℕ → List Bool → (ℕ → Holder) → ℕ → ℕ → List Weight
+weights_from part words binaries holders n zero = []
+weights_from part words binaries holders n (suc count) =
+    weight_of words binaries holders (Part part) n ∷ weights_from (suc part) words binaries holders n count
 
 -- what so many parts hold of the first n cells
-pub record AreSharesFor (words : List ℕ) (holders : ℕ → Holder) (parts n : ℕ) (shares : Shares) : Type 0 where
+pub record AreSharesFor (words : List ℕ) (binaries : List Bool) (holders : ℕ → Holder) (parts n : ℕ) (shares : Shares) : Type 0 where
   -- what each of the parts alone holds
-  pub alone : shares.alone.items ≡ weights_from 0 words holders n parts
+  pub alone : shares.alone.items ≡ weights_from 0 words binaries holders n parts
   -- what two or more of the parts hold
-  pub shared : shares.shared ≡ weight_of words holders Several n
+  pub shared : shares.shared ≡ weight_of words binaries holders Several n
   -- what one or more of the parts hold
-  pub reached : shares.reached ≡ weight_below words (λ k. is_held (holders k)) n
+  pub reached : shares.reached ≡ weight_below words binaries (λ k. is_held (holders k)) n
   -- all that there is, whoever holds it
-  pub own : shares.own ≡ weight_below words (λ k. true) n
+  pub own : shares.own ≡ weight_below words binaries (λ k. true) n
 
 -- what the parts with these roots hold of the first n cells
-abbrev pub AreShares : Graph → List ℕ → ℕ → List ℕ → Shares → Type 0
-AreShares graph words n roots shares = AreSharesFor words (holder_of graph roots) (length roots) n shares
+abbrev pub AreShares : Graph → List ℕ → List Bool → ℕ → List ℕ → Shares → Type 0
+AreShares graph words binaries n roots shares = AreSharesFor words binaries (holder_of graph roots) (length roots) n shares

@@ -36,12 +36,12 @@ fn tally<G: Weighed>(
     parts: usize,
 ) -> Result<Shares, AllocError>
     requires { IsRested (G.graph graph.now) parts labels.now }
-    ensures { IfOk result (HasTallied (G.words graph.now) (holder_at labels.now.holders) parts
+    ensures { IfOk result (HasTallied (G.words graph.now) (G.binaries graph.now) (holder_at labels.now.holders) parts
         (G.own graph.now)) }
 {
     let mut shares = Shares::new(alloc, parts)?;
     for n in 0..graph.own() {
-        shares.add(labels.holder(n), graph.words(n));
+        shares.add(labels.holder(n), graph.words(n), graph.is_binary(n));
     }
     Ok(shares)
 }
@@ -53,7 +53,7 @@ fn tally<G: Weighed>(
 pub fn weigh<G: Weighed>(alloc: Global, graph: &G, roots: &[u32]) -> Result<Shares, AllocError>
     requires few { length roots.now + 1 < 2 ^ 32 }
     requires cells { All (λ root. root < length (G.graph graph.now)) roots.now }
-    ensures { IfOk result (AreShares (G.graph graph.now) (G.words graph.now) (G.own graph.now) roots.now) }
+    ensures { IfOk result (AreShares (G.graph graph.now) (G.words graph.now) (G.binaries graph.now) (G.own graph.now) roots.now) }
 {
     let mut labels = Labels::new(alloc, graph.cells() as usize)?;
     walk_all(graph, &mut labels, roots);

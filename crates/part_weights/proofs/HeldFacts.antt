@@ -7,9 +7,9 @@ use Rattle.cell_parts.specs.Parts.{CellPart}
 use Rattle.heap_skeleton.specs.Skeletons.{SkeletonMap}
 use Rattle.heap_weights.specs.declared.shares.Weight.{Weight}
 use Rattle.text_groups.specs.Sorting.{most_first, put_row}
-use Rattle.part_weights.specs.Weights.{row_of}
-use Rattle.part_weights.specs.Inner.Held.{held_part, held_parts}
-use Rattle.part_weights.specs.Inner.Shown.{no_part, rows_at}
+use Rattle.part_weights.specs.Weights.{row_of, rows_of}
+use Rattle.part_weights.specs.Inner.Held.{held_part, held_parts, sorted_parts}
+use Rattle.part_weights.specs.Inner.Shown.{no_part, row_at, rows_at}
 
 -- ---- the order of sizes
 
@@ -58,6 +58,11 @@ rows-behind heap front (part ∷ rest) (w ∷ alone) same =
 pub rows-held : (heap : SkeletonMap) (parts : List CellPart) (alone : List Weight) → length parts ≡ length alone
     → rows_at heap parts (held_parts alone) ≡ filter (λ row. nat_lt 0 row.cells) (map (row_of heap) (zip parts alone))
 rows-held heap parts alone same = rows-behind heap [] parts alone same
+
+-- the parts that hold a cell, sorted, as rows
+pub rows-sorted : (heap : SkeletonMap) (parts : List CellPart) (alone : List Weight) → length parts ≡ length alone → rows_at heap parts (sorted_parts alone) ≡ rows_of heap parts alone
+rows-sorted heap parts alone same =
+    most_first-map (row_at heap parts) (λ row. row.words) (held_parts alone) ∙ ap (most_first (λ row. row.words)) (rows-held heap parts alone same)
 
 -- ---- their numbers
 

@@ -1,2 +1,3 @@
 pub mod HeldFacts
+pub mod KeyedFacts
 pub mod ShareFacts

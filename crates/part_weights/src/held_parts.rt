@@ -1,5 +1,5 @@
 // The parts that alone hold cells.
-ghost use Rattle.std.specs.Prelude.{◌≡◌, ◌<◌, ◌++◌, length, All, IfOk, OnOk};
+ghost use Rattle.std.specs.Prelude.{◌≡◌, ◌<◌, ◌++◌, length, take, All, IfOk, OnOk};
 ghost use Rattle.std.specs.Option.{option_to_list};
 ghost use Rattle.part_weights.specs.Inner.Held.{held_part, held_parts, sorted_parts};
 
@@ -43,6 +43,21 @@ fn held_parts(alloc: Global, alone: &[Weight]) -> Result<Vec<HeldPart>, AllocErr
     for part in 0..alone.len() {
         push_held(&mut held, part, alone[part])?;
     }
+    Ok(held)
+}
+
+/// The first of the parts that alone hold a cell, at most `most`, those with the most words first.
+pub(crate) fn first_held(
+    alloc: Global,
+    alone: &[Weight],
+    most: usize,
+) -> Result<Vec<HeldPart>, AllocError>
+    ensures value { IfOk result (λ held. held.items ≡ take most (sorted_parts alone.now)) }
+    ensures within { IfOk result (λ held. All (λ h. h.part < length alone.now) held.items) }
+{
+    let mut held = sorted_parts(alloc, alone)?;
+    held.truncate(most);
+    held.shrink_to_fit();
     Ok(held)
 }
 

@@ -8,6 +8,8 @@ pub struct PartRow<'a> {
     pub words: u128,
     /// How many cells it alone holds.
     pub cells: u32,
+    /// How many of these refer to binaries: how many are RefBins or SubBins.
+    pub binaries: u32,
     /// The kind of its cell. A malformed cell has none.
     pub kind: Option<Kind>,
     /// The address of its cell.

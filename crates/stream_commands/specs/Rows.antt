@@ -1,7 +1,7 @@
 -- What each question of this crate means, in one row.
 use Rattle.dump_questions.specs.Meaning.{memory_body, memory_section, no_body, of_bodies, Meaning}
 use Rattle.dump_questions.specs.Heaps.{heap_question, no_address, of_any_size, HeapQuestion}
-use Rattle.std.specs.Prelude.{◌++◌, ◌+◌, ◌∷◌, [], length, true, Bool, List, Option, ℕ}
+use Rattle.std.specs.Prelude.{◌++◌, ◌+◌, ◌∷◌, ◌*◌, [], length, true, Bool, List, Option, ℕ}
 use Rattle.std.specs.Option.{option_map_or, option_to_list}
 use Rattle.dump_sections.specs.Bodies.{body_in}
 use Rattle.dump_sections.specs.Index.{index_of, sections_in, Contents}
@@ -115,13 +115,15 @@ weigh_row pid most = with_cuts all_roots (record (heap_question pid) {
   show = weights_report most;
 })
 
--- what each of the cells alone holds to which the elements of the cell at this address refer, at most this many of them
+-- what each of the cells alone holds to which the elements of the cell at this address refer, at most this many of them,
+-- with the keys under which they stand if that cell is a map
 abbrev pub weigh_cell_row : List ℕ → ℕ → ℕ → Meaning
 weigh_cell_row pid most addr = with_cuts [] (record (heap_question pid) {
   refuses = no_address addr;
   What = Option Weighing;
-  what = λ bytes. address_weighing bytes (index_of bytes) pid addr;
+  what = λ bytes. address_weighing bytes (index_of bytes) pid most addr;
   show = λ found. option_map_or (weights_report most) found [];
+  more = λ limits bytes. 2 * bodies_length (heap_bodies pid (sections bytes));
 })
 
 -- which processes hold the binary with this address

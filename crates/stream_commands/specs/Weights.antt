@@ -9,15 +9,21 @@ use Rattle.report_lines.specs.Lines.{line_of, tab, word_space}
 use Rattle.text_groups.specs.Sums.{capped}
 use Rattle.term_text.specs.Cells.{cell_word}
 
--- the line of a part: the words and the number of the cells that it alone holds, the kind and the address of its
--- cell, how many elements lead to it, and where the first of them stands
-abbrev pub part_line : Row → List ℕ
-part_line row =
-    line_of tab (codes "part" ∷ decimal (capped row.words) ∷ decimal row.cells ∷ cell_word row.kind ∷ hexadecimal row.address ∷ decimal row.elements ∷ decimal row.at ∷ row.label ∷ [])
+-- the numbers of what a part alone holds: words, cells, and how many of these refer to binaries
+abbrev pub held_text : Row → List ℕ
+held_text row = codes "part\t" ++ (decimal (capped row.words) ++ (tab ++ (decimal row.cells ++ (tab ++ (decimal row.binaries ++ tab)))))
 
--- the line of several cells: what they are, their words, and how many they are
+-- the kind and the address of a part's cell, how many elements lead to it, and where the first of them stands
+abbrev pub cell_line : Row → List ℕ
+cell_line row = line_of tab (cell_word row.kind ∷ hexadecimal row.address ∷ decimal row.elements ∷ decimal row.at ∷ row.label ∷ [])
+
+-- the line of a part
+abbrev pub part_line : Row → List ℕ
+part_line row = held_text row ++ cell_line row
+
+-- the line of several cells: what they are, their words, how many they are, and how many of them refer to binaries
 abbrev pub weight_line : List ℕ → Weight → List ℕ
-weight_line word weight = line_of tab (word ∷ decimal (capped weight.words) ∷ decimal weight.cells ∷ [])
+weight_line word weight = line_of tab (word ∷ decimal (capped weight.words) ∷ decimal weight.cells ∷ decimal weight.binaries ∷ [])
 
 -- the line of what the cell reaches whose elements are weighed, if they are those of one
 abbrev pub within_line : Option Weight → List ℕ

@@ -71,7 +71,8 @@ impl Report for WeighCell<'_> {
 
     fn read<D: Dumps>(&self, at: &Opened<'_>, dumps: &mut D) -> Result<Weights, Stop> {
         find_process(at, self.pid)?;
-        let found = Weights::of_cell(at.alloc, dumps, at.index, self.pid, self.addr)?;
+        let most = self.count as usize;
+        let found = Weights::of_cell(at.alloc, dumps, at.index, self.pid, self.addr, most)?;
         or_no_address(found, self.addr)
     }
 

@@ -3,26 +3,41 @@ ghost use Rattle.std.specs.Prelude.{◌≡◌, codes, length, min, take};
 ghost use Rattle.std.specs.List.{flat_map};
 ghost use Rattle.dump_io.specs.Sinks.{Puts};
 ghost use Rattle.part_weights.specs.Shown.{row};
-ghost use Rattle.stream_commands.specs.Weights.{part_line, parts_line, totals, weight_line, weights_report, within_line};
+ghost use Rattle.stream_commands.specs.Weights.{cell_line, held_text, part_line, parts_line, totals, weight_line, weights_report, within_line};
 
-use dump_io::{Failed, Piece, Sink};
+use dump_io::{Failed, Piece, Sink, put_pieces};
 use heap_weights::Weight;
 use part_weights::{PartRow, Weights};
 use report_lines::put_line;
 use term_text::kind_word;
 use text_groups::capped;
 
-// Writes the line of a part.
-fn put_part<K: Sink>(sink: &mut K, part: &PartRow<'_>) -> Result<(), Failed>
-    ensures { Puts (K.state sink.old) (K.state sink.new) (part_line (row part.now)) result }
+// Writes what stands before the kind in the line of a part: the numbers of what it alone holds.
+fn put_held<K: Sink>(sink: &mut K, part: &PartRow<'_>) -> Result<(), Failed>
+    ensures { Puts (K.state sink.old) (K.state sink.new) (held_text (row part.now)) result }
+{
+    put_pieces(
+        sink,
+        &[
+            Piece::Bytes(b"part\t"),
+            Piece::Dec(capped(part.words)),
+            Piece::Bytes(b"\t"),
+            Piece::Dec(u64::from(part.cells)),
+            Piece::Bytes(b"\t"),
+            Piece::Dec(u64::from(part.binaries)),
+            Piece::Bytes(b"\t"),
+        ],
+    )
+}
+
+// Writes the rest of the line of a part: its cell, and the elements that lead to it.
+fn put_cell<K: Sink>(sink: &mut K, part: &PartRow<'_>) -> Result<(), Failed>
+    ensures { Puts (K.state sink.old) (K.state sink.new) (cell_line (row part.now)) result }
 {
     put_line(
         sink,
         b"\t",
         &[
-            Piece::Bytes(b"part"),
-            Piece::Dec(capped(part.words)),
-            Piece::Dec(u64::from(part.cells)),
             Piece::Bytes(kind_word(part.kind)),
             Piece::Hex(part.address),
             Piece::Dec(part.elements),
@@ -30,6 +45,14 @@ fn put_part<K: Sink>(sink: &mut K, part: &PartRow<'_>) -> Result<(), Failed>
             Piece::Bytes(part.label),
         ],
     )
+}
+
+// Writes the line of a part.
+fn put_part<K: Sink>(sink: &mut K, part: &PartRow<'_>) -> Result<(), Failed>
+    ensures { Puts (K.state sink.old) (K.state sink.new) (part_line (row part.now)) result }
+{
+    put_held(sink, part)?;
+    put_cell(sink, part)
 }
 
 // How many parts are shown, if at most `most` are.
@@ -61,6 +84,7 @@ fn put_weight<K: Sink>(sink: &mut K, word: &[u8], weight: Weight) -> Result<(), 
             Piece::Bytes(word),
             Piece::Dec(capped(weight.words)),
             Piece::Dec(u64::from(weight.cells)),
+            Piece::Dec(u64::from(weight.binaries)),
         ],
     )
 }
@@ -125,10 +149,10 @@ fn put_totals<K: Sink>(sink: &mut K, weights: &Weights) -> Result<(), Failed>
 }
 
 /// Writes at most `most` parts that alone hold cells, in the order given. The line of a part is
-/// `part WORDS CELLS KIND ADDR ELEMENTS PLACE LABEL` with tabs between its parts: the words and the number of the cells
-/// that it alone holds, kind and address of its cell, how many of the weighed elements lead to it, and where the first
+/// `part WORDS CELLS BINARIES KIND ADDR ELEMENTS PLACE LABEL` with tabs between its parts: the words and the number of
+/// the cells that it alone holds and how many of these refer to binaries, kind and address of its cell, how many of the weighed elements lead to it, and where the first
 /// of them stands: offset and label of the root, or the place among the elements of a cell and `-`. Behind them
-/// come lines with words and number of several cells: `cell` of those that the cell reaches, if its elements
+/// come lines with the same three numbers of several cells: `cell` of those that the cell reaches, if its elements
 /// are weighed, `shared`, `reached` and `own`; and then `elements E parts K`.
 ///
 /// Returns `Failed` only if the sink's count of faults rose; a proper prefix of the text was written then. It takes

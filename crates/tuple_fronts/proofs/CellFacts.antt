@@ -1,4 +1,4 @@
--- The lines of the cells of a heap: what is known by them of its tuples.
+-- The lines of the cells of a heap: what is known by them of its tuples and lists.
 use Rattle.std.proofs.Common.{◌≡◌, ◌⊎◌, inl, inr, ℕ, suc, ◌+◌, ◌-◌, ◌<◌, ◌≤◌, ◌==◌, Bool, true, false, if◌then◌else◌, List, [], ◌∷◌, ◌++◌, length, take, drop, map, Option, None, Some, refl, sym, ◌∙◌, ap, ap₂, subst, arith}
 use Rattle.std.specs.Prelude.{All}
 use Rattle.std.specs.List.{cons_option, filter_map, list_any}
@@ -10,32 +10,21 @@ use Rattle.dump_io.specs.Lines.{Line, lines_from, text_of}
 use Rattle.field_lines.specs.Lines.{text_line}
 use Rattle.heap_cells.specs.Cells.{Cell, cell_of, first_cells, kind_of, spelled_cell}
 use Rattle.heap_cells.specs.Places.{placed_line}
-use Rattle.heap_skeleton.specs.Skeletons.{SkeletonMap, first_places, is_tuple, is_tuple_kind}
-use Rattle.term_forms.specs.Elements.{Element}
-use Rattle.term_forms.specs.Forms.{HeapForm, Tuple}
+use Rattle.heap_skeleton.specs.Skeletons.{SkeletonMap, first_places}
+use Rattle.term_forms.specs.Forms.{HeapForm, Cons, Tuple}
 use Rattle.term_forms.specs.ReadingForms.{form_of}
 use Rattle.term_forms.specs.Words.{led_of}
-use Rattle.tuple_fronts.specs.Fronts.{form_front}
-use Rattle.tuple_fronts.specs.Inner.Hearing.{known_elements, known_of, left_behind, line_of, tuple_elements}
+use Rattle.tuple_fronts.specs.Fronts.{listed}
+use Rattle.tuple_fronts.specs.Inner.Hearing.{is_listed, is_listed_kind, known_elements, known_of, left_behind, line_of, listed_elements}
 use Rattle.tuple_fronts.proofs.RunFacts.{left-line, left-none, taken-line}
 
--- ---- the elements of a tuple
-
--- the elements of a tuple; no other form has any
-abbrev pub listed : Option HeapForm → List Element
-listed (Some (Tuple es)) = es
-listed form = []
-
-pub front-listed : (form : Option HeapForm) → form_front form ≡ take 8 (listed form)
-front-listed None = refl
-front-listed (Some (Tuple es)) = refl
-front-listed (Some form) = refl
-
 known-form : (enc : Enc) (form : Option HeapForm) (raw : List ℕ) (led : ℕ × List ℕ) → led_of (text_of raw) ≡ Some led → form_of enc led.1 ≡ form
-    → known_elements enc (is_tuple_kind (option_map kind_of form)) raw ≡ Some (listed form)
+    → known_elements enc (is_listed_kind (option_map kind_of form)) raw ≡ Some (listed form)
 known-form enc None raw led is form_is = refl
 known-form enc (Some (Tuple es)) raw led is form_is =
-    ap (λ o. option_and_then (λ (led : ℕ × List ℕ). tuple_elements (form_of enc led.1)) o) is ∙ ap tuple_elements form_is
+    ap (λ o. option_and_then (λ (led : ℕ × List ℕ). listed_elements (form_of enc led.1)) o) is ∙ ap listed_elements form_is
+known-form enc (Some (Cons head tail)) raw led is form_is =
+    ap (λ o. option_and_then (λ (led : ℕ × List ℕ). listed_elements (form_of enc led.1)) o) is ∙ ap listed_elements form_is
 known-form enc (Some form) raw led is form_is = refl
 
 -- ---- the cells of lines and where these begin
@@ -110,7 +99,7 @@ found-skip s enc form at raw lines n numbers behind found =
     }
 
 found-take : (s : SkeletonMap) (enc : Enc) (form : ℕ → Option HeapForm) (at : ℕ) (raw : List ℕ) (lines : List Line) (n : ℕ) (numbers : List ℕ) → line_of s n ≡ at → 0 < length raw
-    → known_elements enc (is_tuple s n) raw ≡ Some (listed (form n)) → AreFound s enc form lines numbers → AreFound s enc form (record { at = at; raw = raw } ∷ lines) (n ∷ numbers)
+    → known_elements enc (is_listed s n) raw ≡ Some (listed (form n)) → AreFound s enc form lines numbers → AreFound s enc form (record { at = at; raw = raw } ∷ lines) (n ∷ numbers)
 found-take s enc form at raw lines n numbers here some known found =
     let took = taken-line s enc at raw n numbers (omega (arith, here, some)) in
     let start : line_of s n - at ≡ 0 = omega (arith, here) in
@@ -118,12 +107,12 @@ found-take s enc form at raw lines n numbers here some known found =
       left = ap (left_behind s lines) took.0 ∙ found.left;
       known =
           ap₂ (λ k l. k ++ known_of s enc lines l) took.1 took.0
-          ∙ ap₂ (λ k l. k ∷ l) (ap (λ k. known_elements enc (is_tuple s n) (drop k raw)) start ∙ known) found.known;
+          ∙ ap₂ (λ k l. k ∷ l) (ap (λ k. known_elements enc (is_listed s n) (drop k raw)) start ∙ known) found.known;
     }
 
 -- the cells of lines are found by them: of those with the same address the first
 pub section-found : (s : SkeletonMap) (enc : Enc) (form : ℕ → Option HeapForm) (base at line : ℕ) (seen : List ℕ) (raws : List (List ℕ)) (number end : ℕ) (numbers : List ℕ)
-    → ((n : ℕ) → is_tuple s n ≡ is_tuple_kind (option_map kind_of (form n))) → line ≡ base + at → All (λ raw. 0 < length raw) raws
+    → ((n : ℕ) → is_listed s n ≡ is_listed_kind (option_map kind_of (form n))) → line ≡ base + at → All (λ raw. 0 < length raw) raws
     → AreAt s form number (first_cells seen (cells_from enc at raws)) (first_places seen (places_from base at raws)) → end ≡ number + length (first_cells seen (cells_from enc at raws))
     → IsWithin number end numbers → AreFound s enc form (lines_from line raws) numbers
 section-found s enc form base at line seen raws number end [] tuples line_is some are end_is within = found-none s enc form (lines_from line raws)
@@ -170,7 +159,7 @@ section-found s enc form base at line seen (raw ∷ raws) number end (n ∷ numb
                 let here : n ≡ number = omega (arith, most, within.0) in
                 let at_line : line_of s n ≡ line = ap (line_of s) here ∙ are.0 ∙ sym line_is in
                 let form_is : form n ≡ form_of enc led.1 = ap form here ∙ are.1 in
-                let known : known_elements enc (is_tuple s n) raw ≡ Some (listed (form n)) =
+                let known : known_elements enc (is_listed s n) raw ≡ Some (listed (form n)) =
                 ap (λ b. known_elements enc b raw) (tuples n) ∙ known-form enc (form n) raw led is (sym form_is) in
                 let next : suc n ≡ suc number = ap suc here in
                 found-take s enc form line raw (lines_from (line + length raw) raws) n numbers at_line (All-head (λ l. 0 < length l) raw raws some) known

@@ -73,10 +73,10 @@ section-keeps first last new now found cells are heard none =
     }
 
 -- both sections
-pub sections-keep : (s : SkeletonMap) (enc : Enc) (now now' : Now) (heap literals : Option Section) (cells own others : List ℕ) (count : ℕ) (none mid last : Kept) → IsSplitAt s.own cells count
-    → own ≡ take count cells → others ≡ drop count cells → now' ≡ now → IsKept [] none → KeepsSection s enc now heap own none mid → KeepsSection s enc now' literals others mid last
-    → KeepsSections s enc now heap literals cells last
-sections-keep s enc now now' heap literals cells own others count none mid last split own_are others_are same empty one two =
+pub sections-keep : (most : ℕ) (s : SkeletonMap) (enc : Enc) (now now' : Now) (heap literals : Option Section) (cells own others : List ℕ) (count : ℕ) (none mid last : Kept) → IsSplitAt s.own cells count
+    → own ≡ take count cells → others ≡ drop count cells → now' ≡ now → none.most ≡ most → IsKept [] none → KeepsSection s enc now heap own none mid → KeepsSection s enc now' literals others mid last
+    → KeepsSections most s enc now heap literals cells last
+sections-keep most s enc now now' heap literals cells own others count none mid last split own_are others_are same most_is empty one two =
     let first = one.keeps.later [] empty in
     let both = two.keeps.later (all_known s enc one.lines own) first in
     record {
@@ -84,6 +84,7 @@ sections-keep s enc now now' heap literals cells own others count none mid last 
       literal_lines = two.lines;
       count = count;
       split = split;
+      most_is = two.keeps.most ∙ one.keeps.most ∙ most_is;
       is =
           subst (λ l. IsKept (all_known s enc one.lines (take count cells) ++ all_known s enc two.lines l) last) others_are
           (subst (λ l. IsKept (all_known s enc one.lines l ++ all_known s enc two.lines others) last) own_are both);
@@ -92,14 +93,15 @@ sections-keep s enc now now' heap literals cells own others count none mid last 
     }
 
 -- vectors with the same items keep the same
-pub sections-same : (s : SkeletonMap) (enc : Enc) (now : Now) (heap literals : Option Section) (cells : List ℕ) (old new : Kept) → new.texts.items ≡ old.texts.items → new.ends.items ≡ old.ends.items
-    → new.lasts.items ≡ old.lasts.items → KeepsSections s enc now heap literals cells old → KeepsSections s enc now heap literals cells new
-sections-same s enc now heap literals cells old new texts ends lasts keeps = record {
+pub sections-same : (most : ℕ) (s : SkeletonMap) (enc : Enc) (now : Now) (heap literals : Option Section) (cells : List ℕ) (old new : Kept) → new.texts.items ≡ old.texts.items → new.ends.items ≡ old.ends.items
+    → new.lasts.items ≡ old.lasts.items → new.most ≡ old.most → KeepsSections most s enc now heap literals cells old → KeepsSections most s enc now heap literals cells new
+sections-same most s enc now heap literals cells old new texts ends lasts same keeps = record {
   heap_lines = keeps.heap_lines;
   literal_lines = keeps.literal_lines;
   count = keeps.count;
   split = keeps.split;
-  is = record { fronts = keeps.is.fronts; holds = rw texts (rw ends (rw lasts keeps.is.holds)); are = keeps.is.are };
+  most_is = same ∙ keeps.most_is;
+  is = record { fronts = keeps.is.fronts; holds = rw texts (rw ends (rw lasts keeps.is.holds)); are = rw same keeps.is.are };
   heap_are = keeps.heap_are;
   literals_are = keeps.literals_are;
 }

@@ -1,5 +1,5 @@
--- What is kept of tuples: one more text, and one more front.
-use Rattle.std.proofs.Common.{◌≡◌, ℕ, suc, ◌+◌, List, [], ◌∷◌, ◌++◌, length, map, Option, None, Some, refl, sym, ◌∙◌, ap, ap₂, subst, append_assoc, append-nil, arith, length-append}
+-- What is kept of cells: one more text, and one more front.
+use Rattle.std.proofs.Common.{◌≡◌, ℕ, zero, suc, ◌+◌, List, [], ◌∷◌, ◌++◌, length, map, take, Option, None, Some, refl, sym, ◌∙◌, ap, ap₂, subst, append_assoc, append-nil, arith, length-append}
 use Rattle.std.proofs.lemmas.List.{map-append}
 use Rattle.term_forms.specs.Elements.{Element}
 use Rattle.term_forms.specs.Reading.{whole_of}
@@ -70,12 +70,12 @@ holds-end fronts begun texts ends lasts holds =
 
 -- ---- what is known of them
 
-fronts-push : (knowns : List (Option (List Element))) (fronts : List (List Element)) (known : Option (List Element)) (front : List Element) → AreFrontsOf knowns fronts → IsFrontOf known front
-    → AreFrontsOf (knowns ++ known ∷ []) (fronts ++ front ∷ [])
-fronts-push [] [] known front are is = (is, tt)
-fronts-push [] (f ∷ fronts) known front are is = absurd are
-fronts-push (k ∷ knowns) [] known front are is = absurd are
-fronts-push (k ∷ knowns) (f ∷ fronts) known front are is = (are.0, fronts-push knowns fronts known front are.1 is)
+fronts-push : (most : ℕ) (knowns : List (Option (List Element))) (fronts : List (List Element)) (known : Option (List Element)) (front : List Element) → AreFrontsOf most knowns fronts → IsFrontOf most known front
+    → AreFrontsOf most (knowns ++ known ∷ []) (fronts ++ front ∷ [])
+fronts-push most [] [] known front are is = (is, tt)
+fronts-push most [] (f ∷ fronts) known front are is = absurd are
+fronts-push most (k ∷ knowns) [] known front are is = absurd are
+fronts-push most (k ∷ knowns) (f ∷ fronts) known front are is = (are.0, fronts-push most knowns fronts known front are.1 is)
 
 pub kept-push : (before : List (Option (List Element))) (begun : List Element) (old new : Kept) (text : List ℕ) (e : Element) → whole_of text ≡ Some e → IsPushed old new text
     → IsKeptWith before begun old → IsKeptWith before (begun ++ e ∷ []) new
@@ -83,34 +83,41 @@ kept-push before begun old new text e is pushed kept = record {
   fronts = kept.fronts;
   holds =
       rw pushed.texts (rw pushed.ends (rw pushed.lasts (holds-push kept.fronts begun old.texts.items old.ends.items old.lasts.items text e is kept.holds)));
-  are = kept.are;
+  are = subst (λ m. AreFrontsOf m before kept.fronts) (sym pushed.most) kept.are;
 }
 
-pub kept-end : (before : List (Option (List Element))) (known : Option (List Element)) (front : List Element) (old new : Kept) → IsFrontOf known front → IsEnded old new
+pub kept-end : (before : List (Option (List Element))) (known : Option (List Element)) (front : List Element) (old new : Kept) → IsFrontOf old.most known front → IsEnded old new
     → IsKeptWith before front old → IsKept (before ++ known ∷ []) new
 kept-end before known front old new is ended kept = record {
   fronts = kept.fronts ++ front ∷ [];
   holds =
       rw ended.texts (rw ended.ends (rw ended.lasts (holds-end kept.fronts front old.texts.items old.ends.items old.lasts.items kept.holds)));
-  are = fronts-push before kept.fronts known front kept.are is;
+  are = subst (λ m. AreFrontsOf m (before ++ known ∷ []) (kept.fronts ++ front ∷ [])) (sym ended.most) (fronts-push old.most before kept.fronts known front kept.are is);
 }
 
 pub keeps-ended : (old mid new : Kept) (known : Option (List Element)) → Begins old mid known → IsEnded mid new → Keeps old new (known ∷ [])
 keeps-ended old mid new known begins ended = record {
-  later = λ before kept. kept-end before known begins.front mid new begins.is ended (begins.later before kept);
+  most = ended.most ∙ begins.most;
+  later = λ before kept.
+      kept-end before known begins.front mid new (subst (λ m. IsFrontOf m known begins.front) (sym begins.most) begins.is) ended (begins.later before kept);
 }
 
 pub Keeps-none : (a : Kept) → Keeps a a []
-Keeps-none a = record { later = λ before kept. subst (λ l. IsKept l a) (sym (append-nil before)) kept }
+Keeps-none a = record { most = refl; later = λ before kept. subst (λ l. IsKept l a) (sym (append-nil before)) kept }
 
 pub Keeps-then : (a b c : Kept) (xs ys : List (Option (List Element))) → Keeps a b xs → Keeps b c ys → Keeps a c (xs ++ ys)
 Keeps-then a b c xs ys one two = record {
+  most = two.most ∙ one.most;
   later = λ before kept. subst (λ l. IsKept l c) (append_assoc before xs ys) (two.later (before ++ xs) (one.later before kept));
 }
 
--- nothing was appended of a tuple of which nothing is known, or that has no elements
+take-nil : (n : ℕ) → (let none : List Element = [] in take n none) ≡ []
+take-nil zero = refl
+take-nil (suc n) = refl
+
+-- nothing was appended of a cell of which nothing is known, or that has no elements
 pub begins-none : (a : Kept) → Begins a a None
-begins-none a = record { front = []; is = record { few = omega arith; are = tt }; later = λ before kept. kept }
+begins-none a = record { most = refl; front = []; is = record { few = omega arith; are = tt }; later = λ before kept. kept }
 
 pub begins-empty : (a : Kept) → Begins a a (Some [])
-begins-empty a = record { front = []; is = record { few = omega arith; are = refl }; later = λ before kept. kept }
+begins-empty a = record { most = refl; front = []; is = record { few = omega arith; are = sym (take-nil a.most) }; later = λ before kept. kept }

@@ -23,15 +23,15 @@ use Rattle.heap_cells.specs.Cells.{Cell, addresses, first_cells, kind_of, spelle
 use Rattle.heap_cells.specs.HeapMap.{form_at}
 use Rattle.heap_cells.specs.Laws.Cells.{first_cells-append}
 use Rattle.heap_cells.specs.Loading.{enc_of}
-use Rattle.heap_skeleton.specs.Skeletons.{SkeletonMap, first_places, heap_in, is_tuple, is_tuple_kind, skeleton_in}
+use Rattle.heap_skeleton.specs.Skeletons.{SkeletonMap, first_places, heap_in, skeleton_in}
 use Rattle.term_forms.specs.Elements.{Element}
 use Rattle.term_forms.specs.Forms.{HeapForm}
 use Rattle.term_forms.specs.Words.{led_of}
-use Rattle.tuple_fronts.specs.Fronts.{form_front, front_of}
+use Rattle.tuple_fronts.specs.Fronts.{first_of, form_first, listed}
 use Rattle.tuple_fronts.specs.declared.kept.Kept.{Kept}
-use Rattle.tuple_fronts.specs.Inner.Hearing.{IsSplitAt, KeepsSections, all_known, known_elements, known_line, known_of, left_behind, left_line, line_of, section_lines}
+use Rattle.tuple_fronts.specs.Inner.Hearing.{IsSplitAt, KeepsSections, all_known, is_listed, is_listed_kind, known_elements, known_line, known_of, left_behind, left_line, line_of, section_lines}
 use Rattle.tuple_fronts.specs.Inner.Kept.{AreFrontsOf, IsSound, shown_fronts}
-use Rattle.tuple_fronts.proofs.CellFacts.{AreAt, AreFound, IsWithin, cells_from, front-listed, listed, places_from, section-found}
+use Rattle.tuple_fronts.proofs.CellFacts.{AreAt, AreFound, IsWithin, cells_from, places_from, section-found}
 use Rattle.tuple_fronts.proofs.PartFacts.{shown-are}
 
 -- ---- how many fronts are kept
@@ -40,7 +40,7 @@ left-count : (s : SkeletonMap) (enc : Enc) (line : Line) (cells : List ℕ) → 
 left-count s enc line [] = refl
 left-count s enc line (cell ∷ cells) =
     elim (nat_lt (line_of s cell) (line.at + length line.raw)) as (λ b. length (if b
-    then known_elements enc (is_tuple s cell) (drop (line_of s cell - line.at) line.raw) ∷ [] else [])
+    then known_elements enc (is_listed s cell) (drop (line_of s cell - line.at) line.raw) ∷ [] else [])
     + length (if b then cells else cell ∷ cells) ≡ length (cell ∷ cells)) [
       | true ↦ omega arith
       | false ↦ omega arith
@@ -59,48 +59,41 @@ all-count s enc lines cells =
     let left : length none ≡ length (left_behind s lines cells) = length-map (left_behind s lines cells) (λ cell. None) in
     omega (arith, left, known-count s enc lines cells, length-append (known_of s enc lines cells) none)
 
-fronts-count : (knowns : List (Option (List Element))) (fronts : List (List Element)) → AreFrontsOf knowns fronts → length fronts ≡ length knowns
-fronts-count [] [] are = refl
-fronts-count [] (f ∷ fronts) are = absurd are
-fronts-count (k ∷ knowns) [] are = absurd are
-fronts-count (k ∷ knowns) (f ∷ fronts) are = ap suc (fronts-count knowns fronts are.1)
+fronts-count : (most : ℕ) (knowns : List (Option (List Element))) (fronts : List (List Element)) → AreFrontsOf most knowns fronts → length fronts ≡ length knowns
+fronts-count most [] [] are = refl
+fronts-count most [] (f ∷ fronts) are = absurd are
+fronts-count most (k ∷ knowns) [] are = absurd are
+fronts-count most (k ∷ knowns) (f ∷ fronts) are = ap suc (fronts-count most knowns fronts are.1)
 
 parts-count : (count : ℕ) (cells : List ℕ) → length (take count cells) + length (drop count cells) ≡ length cells
 parts-count count cells = sym (length-append (take count cells) (drop count cells)) ∙ ap length (take-append-drop count cells)
 
-pub kept-count : (s : SkeletonMap) (enc : Enc) (now : Now) (heap literals : Option Section) (cells : List ℕ) (kept : Kept) → KeepsSections s enc now heap literals cells kept
+pub kept-count : (most : ℕ) (s : SkeletonMap) (enc : Enc) (now : Now) (heap literals : Option Section) (cells : List ℕ) (kept : Kept) → KeepsSections most s enc now heap literals cells kept
     → length (shown_fronts kept.texts.items kept.ends.items kept.lasts.items) ≡ length cells
-kept-count s enc now heap literals cells kept keeps =
+kept-count most s enc now heap literals cells kept keeps =
     let own = take keeps.count cells in
     let others = drop keeps.count cells in
     let first = all-count s enc keeps.heap_lines own in
     let second = all-count s enc keeps.literal_lines others in
     let both = length-append (all_known s enc keeps.heap_lines own) (all_known s enc keeps.literal_lines others) in
-    let fronts = fronts-count (all_known s enc keeps.heap_lines own ++ all_known s enc keeps.literal_lines others) keeps.is.fronts keeps.is.are in
+    let fronts = fronts-count kept.most (all_known s enc keeps.heap_lines own ++ all_known s enc keeps.literal_lines others) keeps.is.fronts keeps.is.are in
     let shown = ap length (shown-are keeps.is.fronts kept keeps.is.holds) in
     omega (arith, first, second, both, fronts, shown, parts-count keeps.count cells)
 
-fronts-few : (knowns : List (Option (List Element))) (fronts : List (List Element)) → AreFrontsOf knowns fronts → All (λ f. length f ≤ 8) fronts
-fronts-few [] [] are = λ i d inside. absurd (omega (arith, inside))
-fronts-few [] (f ∷ fronts) are = absurd are
-fronts-few (k ∷ knowns) [] are = absurd are
-fronts-few (k ∷ knowns) (f ∷ fronts) are = All-cons (λ f. length f ≤ 8) f fronts are.0.few (fronts-few knowns fronts are.1)
-
-pub kept-sound : (s : SkeletonMap) (enc : Enc) (now : Now) (heap literals : Option Section) (cells : List ℕ) (kept : Kept) → KeepsSections s enc now heap literals cells kept → IsSound kept
-kept-sound s enc now heap literals cells kept keeps = record {
+pub kept-sound : (most : ℕ) (s : SkeletonMap) (enc : Enc) (now : Now) (heap literals : Option Section) (cells : List ℕ) (kept : Kept) → KeepsSections most s enc now heap literals cells kept → IsSound kept
+kept-sound most s enc now heap literals cells kept keeps = record {
   fronts = keeps.is.fronts;
   holds = keeps.is.holds;
-  few = fronts-few (all_known s enc keeps.heap_lines (take keeps.count cells) ++ all_known s enc keeps.literal_lines (drop keeps.count cells)) keeps.is.fronts keeps.is.are;
 }
 
 -- ---- what the fronts are, if all is known
 
-known-fronts : (form : ℕ → Option HeapForm) (numbers : List ℕ) (fronts : List (List Element)) → AreFrontsOf (map (λ n. Some (listed (form n))) numbers) fronts
-    → fronts ≡ map (λ n. form_front (form n)) numbers
-known-fronts form [] [] are = refl
-known-fronts form [] (f ∷ fronts) are = absurd are
-known-fronts form (n ∷ numbers) [] are = absurd are
-known-fronts form (n ∷ numbers) (f ∷ fronts) are = ap₂ (λ f l. f ∷ l) (are.0.are ∙ sym (front-listed (form n))) (known-fronts form numbers fronts are.1)
+known-fronts : (most : ℕ) (form : ℕ → Option HeapForm) (numbers : List ℕ) (fronts : List (List Element)) → AreFrontsOf most (map (λ n. Some (listed (form n))) numbers) fronts
+    → fronts ≡ map (λ n. form_first most (form n)) numbers
+known-fronts most form [] [] are = refl
+known-fronts most form [] (f ∷ fronts) are = absurd are
+known-fronts most form (n ∷ numbers) [] are = absurd are
+known-fronts most form (n ∷ numbers) (f ∷ fronts) are = ap₂ (λ f l. f ∷ l) are.0.are (known-fronts most form numbers fronts are.1)
 
 -- ---- numbers that ascend
 
@@ -213,11 +206,11 @@ whole-known : (s : SkeletonMap) (enc : Enc) (form : ℕ → Option HeapForm) (li
 whole-known s enc form lines numbers found =
     ap₂ (λ k l. k ++ map (λ cell. None) l) found.known found.left ∙ append-nil (map (λ n. Some (listed (form n))) numbers)
 
-pub kept-fronts : (s : SkeletonMap) (now : Now) (dump : List ℕ) (index : Contents) (heap literals : Option Section) (cells : List ℕ) (kept : Kept) → now ≡ told dump
+pub kept-fronts : (most : ℕ) (s : SkeletonMap) (now : Now) (dump : List ℕ) (index : Contents) (heap literals : Option Section) (cells : List ℕ) (kept : Kept) → now ≡ told dump
     → s ≡ skeleton_in dump index heap literals → IsStrictlyIncreasing cells → All (λ n. n < length s.addresses) cells
-    → KeepsSections s (enc_of index.version) now heap literals cells kept
-    → shown_fronts kept.texts.items kept.ends.items kept.lasts.items ≡ map (front_of (heap_in dump index heap literals).cells) cells
-kept-fronts s now dump index heap literals cells kept is_told skeleton rising inside keeps =
+    → KeepsSections most s (enc_of index.version) now heap literals cells kept
+    → shown_fronts kept.texts.items kept.ends.items kept.lasts.items ≡ map (first_of most (heap_in dump index heap literals).cells) cells
+kept-fronts most s now dump index heap literals cells kept is_told skeleton rising inside keeps =
     let enc = enc_of index.version in
     let all = (heap_in dump index heap literals).cells in
     let form = form_at all in
@@ -239,8 +232,8 @@ kept-fronts s now dump index heap literals cells kept is_told skeleton rising in
     let same_others = same-length enc other_base 0 seen other_raws in
     let count : length s.addresses ≡ length own_cells + length other_cells =
     ap (λ (k : SkeletonMap). length k.addresses) skeleton ∙ length-map all (λ (c : Cell). c.address) ∙ ap length all_are ∙ length-append own_cells other_cells in
-    let tuples : (n : ℕ) → is_tuple s n ≡ is_tuple_kind (option_map kind_of (form n)) =
-    λ n. ap (λ (k : SkeletonMap). is_tuple_kind (slice_index_or k.kinds n None)) skeleton ∙ ap is_tuple_kind (kinds-at all n) in
+    let tuples : (n : ℕ) → is_listed s n ≡ is_listed_kind (option_map kind_of (form n)) =
+    λ n. ap (λ (k : SkeletonMap). is_listed_kind (slice_index_or k.kinds n None)) skeleton ∙ ap is_listed_kind (kinds-at all n) in
     let own_at : AreAt s form 0 own_cells own_lines = are-at s all 0 own_cells other_cells own_lines other_lines same_own all_are lines_are in
     let others_at : AreAt s form (length own_cells) other_cells other_lines =
     are-at s all (length own_cells) other_cells [] other_lines [] same_others
@@ -259,4 +252,4 @@ kept-fronts s now dump index heap literals cells kept is_told skeleton rising in
     (ap (λ l. all_known s enc l (drop keeps.count cells)) (keeps.literals_are dump is_told) ∙ whole-known s enc form (section_lines dump literals) (drop keeps.count cells) others_found)
     ∙ sym (map-append (λ n. Some (listed (form n))) (take keeps.count cells) (drop keeps.count cells)) ∙ ap (map (λ n. Some (listed (form n)))) (take-append-drop keeps.count cells) in
     shown-are keeps.is.fronts kept keeps.is.holds
-    ∙ known-fronts form cells keeps.is.fronts (subst (λ l. AreFrontsOf l keeps.is.fronts) known keeps.is.are)
+    ∙ known-fronts most form cells keeps.is.fronts (subst (λ m. AreFrontsOf m (map (λ n. Some (listed (form n))) cells) keeps.is.fronts) keeps.most_is (subst (λ l. AreFrontsOf kept.most l keeps.is.fronts) known keeps.is.are))

@@ -32,7 +32,7 @@ take-few xs i is =
 
 -- ---- the cells that are needed are cells of the heap
 
-if-within : (size : ℕ) (b : Bool) (n : ℕ) → n < size → All (λ m. m < size) (if b then n ∷ [] else [])
+pub if-within : (size : ℕ) (b : Bool) (n : ℕ) → n < size → All (λ m. m < size) (if b then n ∷ [] else [])
 if-within size true n below = All-cons (λ m. m < size) n [] below (All-nil (λ m. m < size))
 if-within size false n below = All-nil (λ m. m < size)
 

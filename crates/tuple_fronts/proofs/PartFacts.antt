@@ -197,13 +197,6 @@ span-count kept i span is =
     let all = length-parts 0 kept.texts.items kept.ends.items in
     ap length is.front ∙ length-map (slice_range texts span.0 span.1) read_element ∙ range-count texts span.0 span.1 is.ordered (omega (arith, is.within, all))
 
-pub fronts-few : (kept : Kept) (i : ℕ) → IsSound kept → i < length kept.lasts.items → length (slice_index_or (shown_fronts kept.texts.items kept.ends.items kept.lasts.items) i []) ≤ 8
-fronts-few kept i sound inside =
-    let are = shown-are sound.fronts kept sound.holds in
-    let count : length sound.fronts ≡ length kept.lasts.items = sym (ap length are) ∙ length-shown kept in
-    let few = sound.few i [] (omega (arith, count, inside)) in
-    subst (λ l. length (slice_index_or l i []) ≤ 8) (sym are) few
-
 pub span-element : (kept : Kept) (i : ℕ) (span : ℕ × ℕ) (place : ℕ) (e : Element) → IsSpanOf kept i span → place < span.1 - span.0
     → whole_of (slice_index_or (element_texts kept) (span.0 + place) []) ≡ Some e
     → slice_get (slice_index_or (shown_fronts kept.texts.items kept.ends.items kept.lasts.items) i []) place ≡ Some e

@@ -10,10 +10,10 @@ use Rattle.body_lines.specs.Lines.{lines_at}
 use Rattle.dump_io.specs.Lines.{Line, lf, lines_after, lines_from, raw_lines}
 use Rattle.dump_io.specs.Laws.Lines.{AreLines-raw}
 use Rattle.body_lines.specs.Laws.{raws-behind}
-use Rattle.heap_skeleton.specs.Skeletons.{SkeletonMap, is_tuple}
+use Rattle.heap_skeleton.specs.Skeletons.{SkeletonMap}
 use Rattle.term_forms.specs.Elements.{Element}
 use Rattle.tuple_fronts.specs.declared.kept.Kept.{Kept}
-use Rattle.tuple_fronts.specs.Inner.Hearing.{HasCells, KeepsNext, known_elements, known_line, known_of, left_behind, left_line, line_of}
+use Rattle.tuple_fronts.specs.Inner.Hearing.{HasCells, KeepsNext, known_elements, known_line, known_of, left_behind, left_line, line_of, is_listed}
 use Rattle.tuple_fronts.specs.Inner.Kept.{Keeps}
 use Rattle.tuple_fronts.proofs.KeptFacts.{Keeps-none, Keeps-then}
 
@@ -60,22 +60,22 @@ raws-first bytes raw raws is =
 
 pub taken-line : (s : SkeletonMap) (enc : Enc) (line : ℕ) (raw : List ℕ) (cell : ℕ) (cells : List ℕ) → line_of s cell < line + length raw
     → (left_line s (record { at = line; raw = raw }) (cell ∷ cells) ≡ cells)
-    × (known_line s enc (record { at = line; raw = raw }) (cell ∷ cells) ≡ known_elements enc (is_tuple s cell) (drop (line_of s cell - line) raw) ∷ [])
+    × (known_line s enc (record { at = line; raw = raw }) (cell ∷ cells) ≡ known_elements enc (is_listed s cell) (drop (line_of s cell - line) raw) ∷ [])
 taken-line s enc line raw cell cells before =
     let is = lt-ltb (line_of s cell) (line + length raw) before in
-    (ap (λ b. if b then cells else cell ∷ cells) is, ap (λ b. if b then known_elements enc (is_tuple s cell) (drop (line_of s cell - line) raw) ∷ [] else []) is)
+    (ap (λ b. if b then cells else cell ∷ cells) is, ap (λ b. if b then known_elements enc (is_listed s cell) (drop (line_of s cell - line) raw) ∷ [] else []) is)
 
 pub left-line : (s : SkeletonMap) (enc : Enc) (line : ℕ) (raw : List ℕ) (cell : ℕ) (cells : List ℕ) → line + length raw ≤ line_of s cell
     → (left_line s (record { at = line; raw = raw }) (cell ∷ cells) ≡ cell ∷ cells) × (known_line s enc (record { at = line; raw = raw }) (cell ∷ cells) ≡ [])
 left-line s enc line raw cell cells behind =
     let is = le-ltb (line_of s cell) (line + length raw) behind in
-    (ap (λ b. if b then cells else cell ∷ cells) is, ap (λ b. if b then known_elements enc (is_tuple s cell) (drop (line_of s cell - line) raw) ∷ [] else []) is)
+    (ap (λ b. if b then cells else cell ∷ cells) is, ap (λ b. if b then known_elements enc (is_listed s cell) (drop (line_of s cell - line) raw) ∷ [] else []) is)
 
 -- the line of the first cell begins within the rest
 pub step-taken : (s : SkeletonMap) (enc : Enc) (raws : List (List ℕ)) (rest : List ℕ) (line cell : ℕ) (cells : List ℕ) (raw : List ℕ) (size : ℕ) → raw_lines rest ≡ raws
     → line_of s cell - line < length rest → raw_lines (drop (line_of s cell - line) rest) ≡ raw ∷ raw_lines (drop size rest) → size ≡ line_of s cell - line + length raw
     → (left_behind s (lines_from line raws) (cell ∷ cells) ≡ left_behind s (lines_at (line + size) (drop size rest)) cells)
-    × (known_of s enc (lines_from line raws) (cell ∷ cells) ≡ known_elements enc (is_tuple s cell) raw ∷ known_of s enc (lines_at (line + size) (drop size rest)) cells)
+    × (known_of s enc (lines_from line raws) (cell ∷ cells) ≡ known_elements enc (is_listed s cell) raw ∷ known_of s enc (lines_at (line + size) (drop size rest)) cells)
 step-taken s enc [] rest line cell cells raw size is inside first size_is = absurd (let none = raws-none rest is in omega (arith, none, inside))
 step-taken s enc (r ∷ rs) rest line cell cells raw size is inside first size_is =
     by (step-taken s enc rs (drop (length r) rest) (line + length r) cell cells raw (size - length r)) (cases_lt (line_of s cell) (line + length r))
@@ -86,10 +86,10 @@ step-taken s enc (r ∷ rs) rest line cell cells raw size is inside first size_i
         → size - length r ≡ line_of s cell - (line + length r) + length raw
         → (left_behind s (lines_from (line + length r) rs) (cell ∷ cells) ≡ left_behind s (lines_at (line + length r + (size - length r)) (drop (size - length r) (drop (length r) rest))) cells)
         × (known_of s enc (lines_from (line + length r) rs) (cell ∷ cells)
-        ≡ known_elements enc (is_tuple s cell) raw ∷ known_of s enc (lines_at (line + length r + (size - length r)) (drop (size - length r) (drop (length r) rest))) cells))
+        ≡ known_elements enc (is_listed s cell) raw ∷ known_of s enc (lines_at (line + length r + (size - length r)) (drop (size - length r) (drop (length r) rest))) cells))
         → (line_of s cell < line + length r) ⊎ (line + length r ≤ line_of s cell)
         → (left_behind s (lines_from line (r ∷ rs)) (cell ∷ cells) ≡ left_behind s (lines_at (line + size) (drop size rest)) cells)
-        × (known_of s enc (lines_from line (r ∷ rs)) (cell ∷ cells) ≡ known_elements enc (is_tuple s cell) raw ∷ known_of s enc (lines_at (line + size) (drop size rest)) cells)
+        × (known_of s enc (lines_from line (r ∷ rs)) (cell ∷ cells) ≡ known_elements enc (is_listed s cell) raw ∷ known_of s enc (lines_at (line + size) (drop size rest)) cells)
     by later (inl before) =
         let some = (raws-first rest r rs is).0 in
         let within : line_of s cell - line < length r = omega (arith, before, some) in
@@ -103,7 +103,7 @@ step-taken s enc (r ∷ rs) rest line cell cells raw size is inside first size_i
         let took = taken-line s enc line r cell cells before in (
           ap (left_behind s (lines_from (line + length r) rs)) took.0 ∙ ap (λ l. left_behind s l cells) lines,
           ap₂ (λ k l. k ++ known_of s enc (lines_from (line + length r) rs) l) took.1 took.0
-              ∙ ap₂ (λ r l. known_elements enc (is_tuple s cell) r ∷ known_of s enc l cells) raw_is lines,
+              ∙ ap₂ (λ r l. known_elements enc (is_listed s cell) r ∷ known_of s enc l cells) raw_is lines,
         )
     by later (inr behind) =
         let left = left-line s enc line r cell cells behind in
@@ -119,7 +119,7 @@ step-taken s enc (r ∷ rs) rest line cell cells raw size is inside first size_i
         let lines : lines_at (line + length r + (size - length r)) (drop (size - length r) (drop (length r) rest)) ≡ lines_at (line + size) (drop size rest) = ap₂ lines_at ends rest_is in (
           ap (left_behind s (lines_from (line + length r) rs)) left.0 ∙ more.0 ∙ ap (λ l. left_behind s l cells) lines,
           ap₂ (λ k l. k ++ known_of s enc (lines_from (line + length r) rs) l) left.1 left.0 ∙ more.1
-              ∙ ap (λ l. known_elements enc (is_tuple s cell) raw ∷ known_of s enc l cells) lines,
+              ∙ ap (λ l. known_elements enc (is_listed s cell) raw ∷ known_of s enc l cells) lines,
         )
 
 -- it begins behind the rest
@@ -183,7 +183,7 @@ taken-more s enc old mid new at run cells line rest cell left size next behind s
     let step = step-taken s enc (raw_lines rest) rest line cell left raw size refl (omega (arith, size_is, some, within)) first size_is in
     let lines : lines_at (line + size) (drop size rest) ≡ lines_at next behind = ap₂ lines_at (sym next_is) (sym behind_is) in
     let count = length-drop size rest in
-    let known = known_elements enc (is_tuple s cell) raw in
+    let known = known_elements enc (is_listed s cell) raw in
     record {
       knowns = so_far.knowns ++ known ∷ [];
       left_is = so_far.left_is ∙ step.0 ∙ ap (λ l. left_behind s l left) lines;

@@ -25,6 +25,7 @@ use Rattle.tuple_fronts.specs.CellSets.{cell_with, place_of}
 use Rattle.tuple_fronts.specs.Inner.Tuples.{TupleMap, front_at, lead_tuple, needed, needed_at}
 use Rattle.tuple_fronts.specs.CellShapes.{cell_shapes_with, inner_shapes}
 use Rattle.tuple_fronts.specs.Laws.CellSets.{at-place}
+use Rattle.tuple_fronts.specs.Laws.Keys.{kind-in}
 use Rattle.tuple_fronts.proofs.CommaFacts.{comma-last, tags-count}
 
 -- ---- a tuple
@@ -46,7 +47,7 @@ tags-take pids (e ∷ es) = ap (λ l. or_pid pids (tag_text e) e ∷ l) (sym (ta
 
 -- ---- numbers in a list
 
-head-contained : (n : ℕ) (xs : List ℕ) → Contains (n ∷ xs) n
+pub head-contained : (n : ℕ) (xs : List ℕ) → Contains (n ∷ xs) n
 head-contained n xs = (0, omega arith, refl)
 
 flat-contained : (f : ℕ → List ℕ) (xs : List ℕ) (x n : ℕ) → Contains xs x → Contains (f x) n → Contains (flat_map f xs) n
@@ -54,13 +55,7 @@ flat-contained f [] x n (i, inside, is) has = absurd (omega (arith, inside))
 flat-contained f (y ∷ xs) x n (zero, inside, is) has = Contains-append_left (f y) (flat_map f xs) n (subst (λ z. Contains (f z) n) (sym is) has)
 flat-contained f (y ∷ xs) x n (suc i, inside, is) has = Contains-append_right (f y) (flat_map f xs) n (flat-contained f xs x n (i, omega (arith, inside), is) has)
 
--- ---- the kind of a cell
-
-kind-in : (cells : List Cell) (n : ℕ) → cell_kind (map (λ (cell : Cell). option_map kind_of cell.form) cells) n ≡ option_map kind_of (form_at cells n)
-kind-in [] zero = refl
-kind-in [] (suc n) = refl
-kind-in (cell ∷ cells) zero = refl
-kind-in (cell ∷ cells) (suc n) = kind-in cells n
+-- ---- a cell
 
 -- the number of the cell with an address
 number-in : (cells : List Cell) (address : ℕ) → cell_with (addresses cells) address ≡ number_at cells address
@@ -110,7 +105,7 @@ module _ (pids : Bool) (heap : HeapMap) (lines : List ℕ) (t : TupleMap) (risin
   reference-by address (Some n) has =
       inner-is n (λ tuple. has n (subst (λ b. Contains (if b then n ∷ [] else []) n) (sym tuple) (head-contained n [])))
 
-  element-is : (e : Element) → ((n : ℕ) → Contains (lead_tuple s (lead e)) n → Contains t.cells n) → element_text pids s t e ≡ element_with pids cells e
+  pub element-is : (e : Element) → ((n : ℕ) → Contains (lead_tuple s (lead e)) n → Contains t.cells n) → element_text pids s t e ≡ element_with pids cells e
   element-is (Ref address) has =
       ap (λ o. option_map_or (inner_text pids s t) o (codes "missing()")) (number-in cells address)
       ∙ reference-by address (number_at cells address) has

@@ -2,5 +2,6 @@
 pub mod CellTexts
 pub mod Hearing
 pub mod Kept
+pub mod KeyTexts
 pub mod Texts
 pub mod Tuples

@@ -141,8 +141,8 @@ fn push_inner(
     }
 }
 
-// Appends the shape of an element of a message.
-fn push_element(
+/// Appends the shape of an element of a message.
+pub(crate) fn push_element(
     alloc: Global,
     text: &mut Vec<u8>,
     skeleton: &Skeleton,

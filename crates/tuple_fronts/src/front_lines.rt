@@ -96,7 +96,7 @@ fn own_count(cells: &[u32], own: u32) -> usize
     cells.partition_point(|n| *n < own)
 }
 
-// The fronts of cells whose lines are in the sections with a heap and with the literals.
+// The fronts of cells, each of at most `most` elements, whose lines are in the sections with a heap and with the literals.
 pub(crate) fn keep_fronts<D: Dumps>(
     alloc: Global,
     dumps: &mut D,
@@ -105,6 +105,7 @@ pub(crate) fn keep_fronts<D: Dumps>(
     literals: Option<usize>,
     skeleton: &Skeleton,
     cells: &[u32],
+    most: usize,
 ) -> Result<Kept, ReadFault>
     requires over { IsBuiltOver (D.state dumps.old).now index.now }
     requires heap { IsPlaceIn index.now heap }
@@ -114,14 +115,14 @@ pub(crate) fn keep_fronts<D: Dumps>(
     ensures reads { ReadsAtMost (D.state dumps.old) (D.state dumps.new)
         (body_size (section_in index.now heap) + body_size (section_in index.now literals)) }
     ensures fault { IfErr result (IsReadCauseOf (D.state dumps.old) (D.state dumps.new)) }
-    ensures keeps { IfOk result (KeepsSections skeleton.now (enc_of index.now.version)
+    ensures keeps { IfOk result (KeepsSections most skeleton.now (enc_of index.now.version)
         (D.state dumps.old).now (section_in index.now heap) (section_in index.now literals) cells.now) }
 {
     let count = own_count(cells, skeleton.own());
     let own = &cells[..count];
     let others = cells_behind(cells, count);
     let mut buffer = Vec::new(alloc);
-    let none = Kept::new(alloc);
+    let none = Kept::new(alloc, most);
     let kept = keep_section(dumps, index, heap, skeleton, own, &mut buffer, none)?;
     let mut kept = keep_section(dumps, index, literals, skeleton, others, &mut buffer, kept)?;
     kept.shrink();

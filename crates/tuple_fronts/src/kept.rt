@@ -1,4 +1,4 @@
-// What is kept of tuples: the texts of their first elements.
+// What is kept of cells: the texts of their first elements.
 ghost use Rattle.std.specs.Prelude.{◌≡◌, ◌<◌, [], length, slice_index, slice_index_or, IsSome, OnOk};
 ghost use Rattle.term_forms.specs.Reading.{whole_of};
 ghost use Rattle.tuple_fronts.specs.Inner.Kept.{element_texts, start_at, IsEnded, IsKept, IsPushed, IsSound, IsSpanOf};
@@ -15,6 +15,8 @@ pub(crate) struct Kept {
     pub ends: Vec<u32>,
     /// For each front the number of elements up to its last one.
     pub lasts: Vec<u32>,
+    /// The most elements that a front has.
+    pub most: usize,
 }
 
 // Where the part with a number begins and ends, of parts that end at these places.
@@ -28,14 +30,16 @@ fn span_of(ends: &[u32], i: usize) -> (usize, usize)
 }
 
 impl Kept {
-    // No fronts.
-    pub(crate) fn new(alloc: Global) -> Kept
-        ensures { IsKept [] result }
+    // No fronts, each of which is to have at most `most` elements.
+    pub(crate) fn new(alloc: Global, most: usize) -> Kept
+        ensures kept { IsKept [] result }
+        ensures most { result.most ≡ most }
     {
         Kept {
             texts: Vec::new(alloc),
             ends: Vec::new(alloc),
             lasts: Vec::new(alloc),
+            most,
         }
     }
 
@@ -67,6 +71,7 @@ impl Kept {
         ensures texts { self.new.texts.items ≡ self.old.texts.items }
         ensures ends { self.new.ends.items ≡ self.old.ends.items }
         ensures lasts { self.new.lasts.items ≡ self.old.lasts.items }
+        ensures most { self.new.most ≡ self.old.most }
     {
         self.texts.shrink_to_fit();
         self.ends.shrink_to_fit();

@@ -26,6 +26,8 @@ mod front_lines;
 mod front_sink;
 mod fronts;
 mod kept;
+mod key_places;
+mod keys;
 mod needed;
 mod runs;
 mod shapes;
@@ -35,6 +37,8 @@ mod words;
 
 pub use cell_set::CellSet;
 pub use fronts::TupleFronts;
+pub use key_places::{KeyPlace, PartPlace, key_place};
+pub use keys::key_shapes;
 pub use shapes::{cell_shapes, cell_shapes_with, inner_shapes};
 pub use texts::Texts;
 pub use words::{push_plain, push_plain_with};

@@ -10,8 +10,12 @@ use cell_graphs::CellGraph;
 use heap_skeleton::Skeleton;
 use std::alloc::{AllocError, Global};
 
-// Appends the cell to which a place leads, if it is a tuple.
-fn add_lead(skeleton: &Skeleton, cells: &mut Vec<u32>, lead: Option<u32>) -> Result<(), AllocError>
+/// Appends the cell to which a place leads, if it is a tuple.
+pub(crate) fn add_lead(
+    skeleton: &Skeleton,
+    cells: &mut Vec<u32>,
+    lead: Option<u32>,
+) -> Result<(), AllocError>
     requires { IfSome lead (λ n. n < length skeleton.now.leads) }
     ensures { OnOk result (cells.new.items ≡ cells.old.items ++ lead_tuple skeleton.now lead) }
 {

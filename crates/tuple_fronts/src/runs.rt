@@ -2,14 +2,22 @@
 ghost use Rattle.std.specs.Prelude.{◌≡◌, ◌+◌, ◌-◌, ◌<◌, ◌≤◌, ◌^◌, drop, length, OnOk, IfOk};
 ghost use Rattle.body_lines.specs.Lines.{lines_at};
 ghost use Rattle.tuple_fronts.specs.Inner.Kept.{Keeps};
-ghost use Rattle.tuple_fronts.specs.Inner.Hearing.{HasCells, KeepsNext, known_of, left_behind};
+ghost use Rattle.tuple_fronts.specs.Inner.Hearing.{HasCells, KeepsNext, is_listed, known_of, left_behind};
 
 use crate::first_elements::keep_line;
 use crate::kept::Kept;
 use dump_io::{bytes_from, line_len};
-use heap_skeleton::Skeleton;
+use heap_skeleton::{Kind, Skeleton};
 use std::alloc::AllocError;
 use term_forms::Enc;
+
+// Whether a cell is a tuple or a list.
+fn is_listed(skeleton: &Skeleton, cell: u32) -> bool
+    requires { cell < length skeleton.now.addresses }
+    ensures { result ≡ is_listed skeleton.now cell }
+{
+    matches!(skeleton.kind(cell), Some(Kind::Tuple | Kind::List))
+}
 
 // Keeps the front of a cell if its line begins within the rest of a run, the first line of which begins at
 // an offset. Returns how many bytes of the rest end with its line.
@@ -24,7 +32,6 @@ fn keep_next(
     requires { cell < length skeleton.now.addresses }
     ensures { IfOk result (KeepsNext skeleton.now enc cell line rest.now kept.old kept.new) }
 {
-    skeleton.leads_are_cells();
     let place = skeleton.line(cell).saturating_sub(line);
     if place >= rest.len() as u64 {
         return Ok(None);
@@ -32,7 +39,7 @@ fn keep_next(
     let place = place as usize;
     let size = line_len(&rest[place..]);
     let line = &rest[place..place + size];
-    keep_line(kept, line, enc, skeleton.is_tuple(cell))?;
+    keep_line(kept, line, enc, is_listed(skeleton, cell))?;
     Ok(Some(place + size))
 }
 

@@ -10,6 +10,7 @@ ghost use Rattle.tuple_fronts.specs.CellShapes.{cell_shapes, cell_shapes_with, i
 
 use crate::cell_set::CellSet;
 use crate::cell_texts::{inner_texts, subject_texts};
+use crate::first_elements::MOST_ELEMENTS;
 use crate::needed::needed_cells;
 use crate::texts::Texts;
 use crate::tuples::Tuples;
@@ -45,7 +46,7 @@ pub fn inner_shapes<D: Dumps>(
     ensures shapes { IfOk result (λ shapes. IfTold (D.state dumps.old).now
         (λ dump. shapes ≡ inner_shapes dump index.now pid.now cells)) }
 {
-    let tuples = Tuples::load(alloc, dumps, index, pid, skeleton, cells)?;
+    let tuples = Tuples::load(alloc, dumps, index, pid, skeleton, cells, MOST_ELEMENTS)?;
     let shapes = inner_texts(alloc, skeleton, &tuples, false)?;
     Ok(shapes)
 }
@@ -82,7 +83,7 @@ pub fn cell_shapes_with<D: Dumps>(
 {
     skeleton.leads_are_cells();
     let needed = needed_cells(alloc, skeleton, cells)?;
-    let tuples = Tuples::load(alloc, dumps, index, pid, skeleton, needed)?;
+    let tuples = Tuples::load(alloc, dumps, index, pid, skeleton, needed, MOST_ELEMENTS)?;
     let inner = inner_texts(alloc, skeleton, &tuples, pids)?;
     let shapes = subject_texts(alloc, skeleton, &tuples, &inner, cells, pids)?;
     Ok(shapes)

@@ -8,7 +8,7 @@ ghost use Rattle.dump_sections.specs.Loading.{bodies_length};
 ghost use Rattle.heap_cells.specs.Loading.{heap_bodies};
 ghost use Rattle.heap_skeleton.specs.Skeletons.{skeleton_for};
 ghost use Rattle.term_forms.specs.Seen.{element};
-ghost use Rattle.tuple_fronts.specs.Fronts.{fronts_for};
+ghost use Rattle.tuple_fronts.specs.Fronts.{firsts_for};
 ghost use Rattle.tuple_fronts.specs.CellSets.{place_of};
 ghost use Rattle.tuple_fronts.specs.Inner.Tuples.{front_at};
 
@@ -40,7 +40,7 @@ impl Model for Tuples {
 }
 
 impl Tuples {
-    /// Reads the heap of a process and the literals once more, and keeps the first elements of these cells.
+    /// Reads the heap of a process and the literals once more, and keeps the first `most` elements of these cells.
     pub(crate) fn load<D: Dumps>(
         alloc: Global,
         dumps: &mut D,
@@ -48,6 +48,7 @@ impl Tuples {
         pid: &[u8],
         skeleton: &Skeleton,
         cells: CellSet,
+        most: usize,
     ) -> Result<Tuples, ReadFault>
         requires over { IsBuiltOver (D.state dumps.old).now index.now }
         requires cells { All (λ n. n < length skeleton.now.leads) cells }
@@ -59,10 +60,18 @@ impl Tuples {
         ensures cells { IfOk result (λ tuples. tuples.cells ≡ cells) }
         ensures ascending { IfOk result (λ tuples. IsStrictlyIncreasing tuples.cells) }
         ensures fronts { IfOk result (λ tuples. IfTold (D.state dumps.old).now
-            (λ dump. tuples.fronts ≡ fronts_for dump index.now pid.now cells)) }
+            (λ dump. tuples.fronts ≡ firsts_for most dump index.now pid.now cells)) }
     {
         skeleton.leads_are_cells();
-        let fronts = TupleFronts::load(alloc, dumps, index, pid, skeleton, cells.numbers())?;
+        let fronts = TupleFronts::load_first(
+            alloc,
+            dumps,
+            index,
+            pid,
+            skeleton,
+            cells.numbers(),
+            most,
+        )?;
         Ok(Tuples { cells, fronts })
     }
 

@@ -1,11 +1,14 @@
 -- Parts with what they alone hold, as they are kept.
-use Rattle.std.specs.Prelude.{◌≡◌, ◌<◌, List, [], length, map, All, Option, slice_index_or}
+use Rattle.std.specs.Prelude.{◌≡◌, ℕ, ◌<◌, List, [], length, map, All, Option, None, Some, slice_index_or}
+use Rattle.std.specs.List.{enumerate_from}
 use Rattle.cell_parts.specs.Parts.{CellPart, CellParts}
+use Rattle.cell_words.specs.Binaries.{binaries_among}
 use Rattle.heap_skeleton.specs.Skeletons.{SkeletonMap}
 use Rattle.heap_weights.specs.Shares.{AreShares}
 use Rattle.heap_weights.specs.declared.shares.Shares.{Shares}
 use Rattle.heap_weights.specs.declared.shares.Weight.{Weight}
 use Rattle.root_parts.specs.Over.{IsOver}
+use Rattle.tuple_fronts.specs.declared.key_places.PartPlace.{PartPlace}
 use Rattle.part_weights.specs.Weights.{Row, Weighing, row_of}
 use Rattle.part_weights.specs.declared.held_parts.HeldPart.{HeldPart}
 
@@ -21,10 +24,32 @@ row_at heap parts held = row_of heap (slice_index_or parts held.part no_part, he
 abbrev pub rows_at : SkeletonMap → List CellPart → List HeldPart → List Row
 rows_at heap parts held = map (row_at heap parts) held
 
--- a weighing with these parts, of which those that alone hold a cell have rows, and with these sums
-abbrev pub weighing_with : SkeletonMap → CellParts → List HeldPart → Option Weight → Weight → Weight → Weight → Weighing
-weighing_with heap parts held within shared reached own = record {
-  rows = rows_at heap parts.parts held;
+-- the label of the row at a place: one of these texts, or that of its part
+abbrev pub label_at : Option (List (List ℕ)) → ℕ → CellPart → List ℕ
+label_at None i part = part.label
+label_at (Some texts) i part = slice_index_or texts i []
+
+-- the row at a place, with its label
+abbrev pub labelled_row : SkeletonMap → List CellPart → Option (List (List ℕ)) → ℕ × HeldPart → Row
+labelled_row heap parts labels (i, held) =
+    let part = slice_index_or parts held.part no_part in record (row_at heap parts held) { label = label_at labels i part }
+
+-- the rows of parts that alone hold a cell, with their labels
+abbrev pub labelled_rows : SkeletonMap → List CellPart → Option (List (List ℕ)) → List HeldPart → List Row
+labelled_rows heap parts labels held = map (labelled_row heap parts labels) (enumerate_from 0 held)
+
+-- where a part stands among the elements of a cell
+abbrev pub part_place : ℕ → CellPart → PartPlace
+part_place cell part = record { cell = cell; at = part.at; part = part.cell }
+
+-- where the parts stand that alone hold a cell
+abbrev pub held_place : ℕ → List CellPart → HeldPart → PartPlace
+held_place cell parts held = part_place cell (slice_index_or parts held.part no_part)
+
+-- a weighing with these parts, of which those that alone hold a cell have rows with labels, and with these sums
+abbrev pub weighing_with : SkeletonMap → CellParts → List HeldPart → Option (List (List ℕ)) → Option Weight → Weight → Weight → Weight → Weighing
+weighing_with heap parts held labels within shared reached own = record {
+  rows = labelled_rows heap parts.parts labels held;
   within = within;
   shared = shared;
   reached = reached;
@@ -40,4 +65,4 @@ pub record IsSound (heap : SkeletonMap) (parts : CellParts) (held : List HeldPar
 
 -- these are the shares of the cells of parts
 abbrev pub AreParts : SkeletonMap → List CellPart → Shares → Type 0
-AreParts heap parts shares = AreShares heap.leads heap.words heap.own (map (λ part. part.cell) parts) shares
+AreParts heap parts shares = AreShares heap.leads heap.words (binaries_among heap.kinds) heap.own (map (λ part. part.cell) parts) shares

@@ -8,9 +8,11 @@ use Rattle.dump_io.specs.Dumps.{Now, IfTold}
 use Rattle.dump_io.specs.Lines.{Line, raw_lines, text_of}
 use Rattle.dump_sections.specs.Bodies.{body_in, body_start}
 use Rattle.dump_sections.specs.Sections.{Section}
-use Rattle.heap_skeleton.specs.Skeletons.{SkeletonMap, is_tuple}
+use Rattle.cell_records.specs.declared.cells.Kind.{Kind}
+use Rattle.cell_records.specs.declared.cells.Kind.TheVariants as kind
+use Rattle.heap_skeleton.specs.Skeletons.{SkeletonMap}
 use Rattle.term_forms.specs.Elements.{Element}
-use Rattle.term_forms.specs.Forms.{HeapForm, Tuple}
+use Rattle.term_forms.specs.Forms.{HeapForm, Cons, Tuple}
 use Rattle.term_forms.specs.ReadingForms.{form_of}
 use Rattle.term_forms.specs.Words.{led_of}
 use Rattle.tuple_fronts.specs.declared.front_sink.FrontSink.{FrontSink}
@@ -19,14 +21,25 @@ use Rattle.tuple_fronts.specs.Inner.Kept.{IsKept, Keeps}
 
 -- ---- one line
 
--- the elements of a tuple, if the form is one
-abbrev pub tuple_elements : Option HeapForm → Option (List Element)
-tuple_elements (Some (Tuple elements)) = Some elements
-tuple_elements form = None
+-- the elements of a tuple or a list, if the form is one
+abbrev pub listed_elements : Option HeapForm → Option (List Element)
+listed_elements (Some (Tuple elements)) = Some elements
+listed_elements (Some (Cons head tail)) = Some (head ∷ tail ∷ [])
+listed_elements form = None
 
--- what is known of the elements of a tuple by a line, if that is the line of one; any other cell keeps none
+-- whether a cell of this kind is a tuple or a list
+abbrev pub is_listed_kind : Option Kind → Bool
+is_listed_kind (Some kind.Tuple) = true
+is_listed_kind (Some kind.List) = true
+is_listed_kind other = false
+
+-- whether the cell with a number is
+abbrev pub is_listed : SkeletonMap → ℕ → Bool
+is_listed s cell = is_listed_kind (slice_index_or s.kinds cell None)
+
+-- what is known of the elements of a cell by its line, if it is a tuple or a list; any other cell keeps none
 abbrev pub known_elements : Enc → Bool → List ℕ → Option (List Element)
-known_elements enc true raw = option_and_then (λ led. tuple_elements (form_of enc led.1)) (led_of (text_of raw))
+known_elements enc true raw = option_and_then (λ led. listed_elements (form_of enc led.1)) (led_of (text_of raw))
 known_elements enc false raw = Some []
 
 -- the offset at which the line of a cell begins
@@ -45,7 +58,7 @@ abbrev pub known_line : SkeletonMap → Enc → Line → List ℕ → List (Opti
 known_line s enc line [] = []
 known_line s enc line (cell ∷ cells) =
     if nat_lt (line_of s cell) (line.at + length line.raw)
-    then known_elements enc (is_tuple s cell) (drop (line_of s cell - line.at) line.raw) ∷ [] else []
+    then known_elements enc (is_listed s cell) (drop (line_of s cell - line.at) line.raw) ∷ [] else []
 
 -- the cells that are left behind several lines
 abbrev pub left_behind : SkeletonMap → List Line → List ℕ → List ℕ
@@ -81,7 +94,7 @@ KeepsNext s enc cell line rest old new None = (new ≡ old) × (length rest ≤ 
 KeepsNext s enc cell line rest old new (Some size) =
     (raw : List ℕ) × (raw_lines (drop (line_of s cell - line) rest) ≡ raw ∷ raw_lines (drop size rest))
     × (size ≡ (line_of s cell - line) + length raw) × (0 < length raw) × (size ≤ length rest)
-    × Keeps old new (known_elements enc (is_tuple s cell) raw ∷ [])
+    × Keeps old new (known_elements enc (is_listed s cell) raw ∷ [])
 
 -- the lines of the body of a section
 abbrev pub section_lines : List ℕ → Option Section → List Line
@@ -104,11 +117,12 @@ abbrev pub IsSplitAt : ℕ → List ℕ → ℕ → Type 0
 IsSplitAt own cells count = IsPartitionPoint (λ n. nat_lt n own ≡ true) (λ n. nat_lt n own ≡ false) cells count
 
 -- the fronts of these cells are kept, of the first of which the lines are in one section and of the others in another
-pub record KeepsSections (s : SkeletonMap) (enc : Enc) (now : Now) (heap literals : Option Section) (cells : List ℕ) (kept : Kept) : Type 0 where
+pub record KeepsSections (most : ℕ) (s : SkeletonMap) (enc : Enc) (now : Now) (heap literals : Option Section) (cells : List ℕ) (kept : Kept) : Type 0 where
   pub heap_lines : List Line
   pub literal_lines : List Line
   pub count : ℕ
   pub split : IsSplitAt s.own cells count
+  pub most_is : kept.most ≡ most
   pub is : IsKept (all_known s enc heap_lines (take count cells) ++ all_known s enc literal_lines (drop count cells)) kept
   pub heap_are : IfTold now (λ dump. heap_lines ≡ section_lines dump heap)
   pub literals_are : IfTold now (λ dump. literal_lines ≡ section_lines dump literals)

@@ -37,22 +37,22 @@ pub record Holds (fronts : List (List Element)) (begun : List Element) (texts en
   pub spelled : map (map whole_of) front_texts ≡ map (map Some) fronts
   pub begun_spelled : map whole_of begun_texts ≡ map Some begun
 
--- of a tuple of which the elements are known, if they are, these are the first 8
-pub record IsFrontOf (known : Option (List Element)) (front : List Element) : Type 0 where
-  pub few : length front ≤ 8
-  pub are : IfSome known (λ elements. front ≡ take 8 elements)
+-- of a cell of which the elements are known, if they are, these are the first so many
+pub record IsFrontOf (most : ℕ) (known : Option (List Element)) (front : List Element) : Type 0 where
+  pub few : length front ≤ most
+  pub are : IfSome known (λ elements. front ≡ take most elements)
 
 -- the fronts of several cells, in order
-abbrev pub AreFrontsOf : List (Option (List Element)) → List (List Element) → Type 0
-AreFrontsOf [] [] = Unit {0}
-AreFrontsOf (known ∷ more) (front ∷ fronts) = IsFrontOf known front × AreFrontsOf more fronts
-AreFrontsOf knowns fronts = ⊥
+abbrev pub AreFrontsOf : ℕ → List (Option (List Element)) → List (List Element) → Type 0
+AreFrontsOf most [] [] = Unit {0}
+AreFrontsOf most (known ∷ more) (front ∷ fronts) = IsFrontOf most known front × AreFrontsOf most more fronts
+AreFrontsOf most knowns fronts = ⊥
 
 -- fronts are kept of which this is known, and behind them the elements of one that isn't ended
 pub record IsKeptWith (knowns : List (Option (List Element))) (begun : List Element) (kept : Kept) : Type 0 where
   pub fronts : List (List Element)
   pub holds : Holds fronts begun kept.texts.items kept.ends.items kept.lasts.items
-  pub are : AreFrontsOf knowns fronts
+  pub are : AreFrontsOf kept.most knowns fronts
 
 -- fronts are kept of which this is known
 abbrev pub IsKept : List (Option (List Element)) → Kept → Type 0
@@ -60,12 +60,14 @@ IsKept knowns kept = IsKeptWith knowns [] kept
 
 -- behind what was kept fronts of which this is known are kept too
 pub record Keeps (old new : Kept) (knowns : List (Option (List Element))) : Type 0 where
+  pub most : new.most ≡ old.most
   pub later : (before : List (Option (List Element))) → IsKept before old → IsKept (before ++ knowns) new
 
 -- behind what was kept are the elements of a front that isn't ended, of which this is known
 pub record Begins (old new : Kept) (known : Option (List Element)) : Type 0 where
+  pub most : new.most ≡ old.most
   pub front : List Element
-  pub is : IsFrontOf known front
+  pub is : IsFrontOf old.most known front
   pub later : (before : List (Option (List Element))) → IsKept before old → IsKeptWith before front new
 
 -- the text of an element was appended
@@ -73,18 +75,19 @@ pub record IsPushed (old new : Kept) (text : List ℕ) : Type 0 where
   pub texts : new.texts.items ≡ old.texts.items ++ text
   pub ends : new.ends.items ≡ old.ends.items ++ (length old.texts.items + length text) ∷ []
   pub lasts : new.lasts.items ≡ old.lasts.items
+  pub most : new.most ≡ old.most
 
 -- a front was ended
 pub record IsEnded (old new : Kept) : Type 0 where
   pub texts : new.texts.items ≡ old.texts.items
   pub ends : new.ends.items ≡ old.ends.items
   pub lasts : new.lasts.items ≡ old.lasts.items ++ length old.ends.items ∷ []
+  pub most : new.most ≡ old.most
 
--- fronts are kept, each of at most 8 elements
+-- fronts are kept
 pub record IsSound (kept : Kept) : Type 0 where
   pub fronts : List (List Element)
   pub holds : Holds fronts [] kept.texts.items kept.ends.items kept.lasts.items
-  pub few : All (λ front. length front ≤ 8) fronts
 
 -- where the part with a number begins, of parts that end at these places
 abbrev pub start_at : List ℕ → ℕ → ℕ

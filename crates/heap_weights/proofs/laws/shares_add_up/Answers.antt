@@ -2,4 +2,4 @@ use Rattle.heap_weights.proofs.Summing.{add-up}
 use Rattle.heap_weights.proofs.laws.shares_add_up.Goals as goal
 
 pub returns : goal.returns
-returns c = λ graph within words own roots shares are. add-up graph within roots words own shares are
+returns c = λ graph within words binaries own roots shares are. add-up graph within roots words binaries own shares are

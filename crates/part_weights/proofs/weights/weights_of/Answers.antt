@@ -1,4 +1,4 @@
-use Rattle.std.proofs.Common.{◌≡◌, ◌<◌, length, ◌∙◌, ap, subst}
+use Rattle.std.proofs.Common.{◌≡◌, ◌<◌, None, length, ◌∙◌, ap, subst}
 use Rattle.std.specs.Prelude.{All}
 use Rattle.part_weights.specs.Inner.Held.{sorted_parts}
 use Rattle.part_weights.specs.Inner.Shown.{weighing_with}
@@ -16,5 +16,5 @@ invariant_of-result c =
 pub returns : goal.returns
 returns c = λ elements of.
     let shares = c.in_ok-alone.field-0 in
-    ap (λ held. weighing_with c.args.skeleton c.args.parts held c.args.within shares.shared shares.reached shares.own) (c.in_ok-held.ensures.value ∙ ap sorted_parts c.deref.ensures.value)
+    ap (λ held. weighing_with c.args.skeleton c.args.parts held None c.args.within shares.shared shares.reached shares.own) (c.in_ok-held.ensures.value ∙ ap sorted_parts c.deref.ensures.value)
     ∙ weighing-kept c.args.skeleton c.args.parts shares c.args.within elements of c.in_ok-alone.ensures

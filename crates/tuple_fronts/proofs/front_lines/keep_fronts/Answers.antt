@@ -18,6 +18,6 @@ returns-clause-keeps g c =
     let count = c.own_count-count.result in
     let split = subst (λ own. IsSplitAt own cells count) c.own.ensures.value c.own_count-count.ensures.split in
     let last = c.in_ok-kept-2.kept in
-    sections-same s enc now heap literals cells last c.shrink.new.self c.shrink.ensures.texts c.shrink.ensures.ends c.shrink.ensures.lasts
-    (sections-keep s enc now (d.state c.keep_section.new.dumps).now heap literals cells (take count cells) c.cells_behind-others.result.now count c.new-none.result c.in_ok-kept.kept last split refl
-    c.cells_behind-others.ensures c.in_ok-kept.ensures.reads.same_now c.new-none.ensures c.in_ok-kept.ensures.keeps c.in_ok-kept-2.ensures.keeps)
+    sections-same c.args.most s enc now heap literals cells last c.shrink.new.self c.shrink.ensures.texts c.shrink.ensures.ends c.shrink.ensures.lasts c.shrink.ensures.most
+    (sections-keep c.args.most s enc now (d.state c.keep_section.new.dumps).now heap literals cells (take count cells) c.cells_behind-others.result.now count c.new-none.result c.in_ok-kept.kept last split refl
+    c.cells_behind-others.ensures c.in_ok-kept.ensures.reads.same_now c.new-none.ensures.most c.new-none.ensures.kept c.in_ok-kept.ensures.keeps c.in_ok-kept-2.ensures.keeps)

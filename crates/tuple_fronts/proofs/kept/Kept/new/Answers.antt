@@ -1,8 +1,8 @@
 use Rattle.std.proofs.Common.{refl, []}
 use Rattle.tuple_fronts.proofs.kept.Kept.new.Goals as goal
 
-pub returns : goal.returns
-returns c = record {
+pub returns-clause-kept : goal.returns-clause-kept
+returns-clause-kept c = record {
   fronts = [];
   holds = record {
     front_texts = [];
