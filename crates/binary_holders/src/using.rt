@@ -242,8 +242,7 @@ pub fn binary_use<D: Dumps>(
     ensures fault { IfErr result (IsReadCauseOf (D.state dumps.old) (D.state dumps.new)) }
 {
     let (stored, targets) = stored_targets(alloc, dumps, index)?;
-    let users = Listed::Users;
-    let (held, counts) = count_references(alloc, dumps, index, procs, &targets, users)?;
+    let (held, counts) = count_references(alloc, dumps, index, procs, &targets, Listed::Users)?;
     let list = stored.as_slice();
     let binaries = targets.binaries();
     let holders = counts.holders.as_slice();
@@ -289,7 +288,6 @@ pub fn holders<D: Dumps>(
     ensures fault { IfErr result (IsReadCauseOf (D.state dumps.old) (D.state dumps.new)) }
 {
     let targets = one_target(alloc, number)?;
-    let holders = Listed::Holders;
-    let (held, _counts) = count_references(alloc, dumps, index, procs, &targets, holders)?;
+    let (held, _counts) = count_references(alloc, dumps, index, procs, &targets, Listed::Holders)?;
     Ok(held)
 }

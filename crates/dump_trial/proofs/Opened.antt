@@ -27,7 +27,7 @@ use Rattle.heap_cells.specs.Loading as heaps
 use Rattle.root_views.specs.declared.kinds.RootKind.{RootKind}
 use Rattle.dump_trial.specs.Trial.{root_body}
 use Rattle.root_views.specs.Sections.{root_section}
-use Rattle.dump_trial.specs.Inner.Held.{bytes_in, IsOpened}
+use Rattle.dump_trial.specs.Inner.GoodDumps.{bytes_in, IsOpened}
 use Rattle.dump_trial.proofs.Contained.{IsSmall, small-in}
 use Rattle.dump_trial.proofs.Memory.{memory-bodies, memory-heap}
 

@@ -1,4 +1,4 @@
 -- What only private functions cite.
 pub mod Finding
-pub mod Held
+pub mod GoodDumps
 pub mod Tallies

@@ -6,7 +6,7 @@ ghost use Rattle.dump_trial.specs.Trial.{root_body, process_roots, tally_in, pro
 ghost use Rattle.dump_trial.specs.Inner.Tallies.{plus, AreAtMost};
 
 use crate::finder::Finder;
-use crate::held::Held;
+use crate::good_dump::GoodDump;
 use crate::tally::{Tally, count_roots};
 use process_table::Procs;
 use root_views::RootKind;
@@ -30,7 +30,7 @@ fn plus(a: Tally, b: Tally) -> Tally
 // Counts the roots of one kind. A body has at most 512 MiB, and so at most 1,073,741,824 roots.
 fn count_kind(
     alloc: Global,
-    held: &mut Held,
+    held: &mut GoodDump,
     finder: &Finder<'_>,
     pid: &[u8],
     kind: RootKind,
@@ -50,7 +50,7 @@ fn count_kind(
 // Counts the roots of one process over its heap, which the walker judges.
 fn count_bodies(
     alloc: Global,
-    held: &mut Held,
+    held: &mut GoodDump,
     finder: &Finder<'_>,
     pid: &[u8],
     walker: &mut Walker<'_>,
@@ -70,7 +70,7 @@ fn count_bodies(
 // Counts the roots of one process.
 fn count_process(
     alloc: Global,
-    held: &mut Held,
+    held: &mut GoodDump,
     finder: &Finder<'_>,
     pid: &[u8],
 ) -> Result<Tally, AllocError>
@@ -88,7 +88,7 @@ fn count_process(
 /// Counts the roots of all processes.
 pub(crate) fn count_processes(
     alloc: Global,
-    held: &mut Held,
+    held: &mut GoodDump,
     finder: &Finder<'_>,
     procs: &Procs,
 ) -> Result<Tally, AllocError>

@@ -12,7 +12,7 @@
 
 mod bad_roots;
 mod finder;
-mod held;
+mod good_dump;
 mod only_memory;
 mod summary;
 mod tally;

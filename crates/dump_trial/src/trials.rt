@@ -7,7 +7,7 @@ ghost use Rattle.dump_trial.specs.Trial.{queue_limit, summary_of, tally_of, tria
 
 use crate::bad_roots::count_processes;
 use crate::finder::Finder;
-use crate::held::Held;
+use crate::good_dump::GoodDump;
 use crate::summary::Summary;
 use crate::tally::Tally;
 use dump_audit::audit;
@@ -33,7 +33,7 @@ fn count_findings(alloc: Global, index: &Index, procs: &Procs) -> Result<u64, Al
 // How many roots the processes have.
 fn count_all_roots(
     alloc: Global,
-    held: &mut Held,
+    held: &mut GoodDump,
     index: &Index,
     procs: &Procs,
 ) -> Result<Tally, AllocError>
@@ -47,7 +47,7 @@ fn count_all_roots(
 // What there is in the dump with these processes.
 fn summarize_processes(
     alloc: Global,
-    held: &mut Held,
+    held: &mut GoodDump,
     index: &Index,
     procs: &Procs,
 ) -> Result<Summary, AllocError>
@@ -66,7 +66,7 @@ fn summarize_processes(
     })
 }
 
-fn summarize(alloc: Global, held: &mut Held, index: &Index) -> Result<Summary, AllocError>
+fn summarize(alloc: Global, held: &mut GoodDump, index: &Index) -> Result<Summary, AllocError>
     requires { IsIndexOf held.old index.now }
     ensures { IfOk result (λ summary. summary ≡ summary_of held.old) }
 {
@@ -85,6 +85,6 @@ pub fn trial(alloc: Global, seed: u64, count: u32) -> Result<Summary, AllocError
 {
     made_dump_is_accepted(seed, count);
     let bytes = make(alloc, seed, count)?;
-    let (mut held, index) = Held::open(alloc, bytes)?;
+    let (mut held, index) = GoodDump::open(alloc, bytes)?;
     summarize(alloc, &mut held, &index)
 }

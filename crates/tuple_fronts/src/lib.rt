@@ -1,8 +1,8 @@
-//! The first elements of some tuples of a heap of any size, which are read again, and the shapes of its cells.
+//! The first elements of some tuples and lists of a heap of any size, which are read again, and the shapes of its cells.
 //!
 //! A skeleton (`heap_skeleton`) has where the line of each cell of a heap begins, and no text. [`TupleFronts::load`] reads
-//! the heap once more, and keeps of the tuples that are asked for the texts of the first 8 elements, all in one pool: for
-//! each element its text and 4 bytes, and 4 bytes for each cell. No other line is looked at, and of a tuple no more
+//! the heap once more, and keeps of the cells that are asked for the texts of the first 8 elements, all in one pool: for
+//! each element its text and 4 bytes, and 4 bytes for each cell. No other line is looked at, and of a cell no more
 //! elements are read than are kept, however many it has.
 //!
 //! ```text
@@ -17,6 +17,9 @@
 //! [`cell_shapes`] has that of a message that refers to it, as `{'$gen_cast',{put,_,_}}`, and [`inner_shapes`] that which
 //! it has inside a message, as `{put,_,_}`. Of an atom at most the first 255 bytes are shown. The cells are a [`CellSet`].
 //! [`cell_shapes_with`] can also show pids that are elements, as `{ok,<0.81.0>}`.
+//!
+//! The *key* under which a part of a map stands is an element of another cell: [`key_place`] says of which, and
+//! [`key_shapes`] has the shapes of keys (`specs/Keys.antt`).
 #![tactic(auto)]
 
 mod cell_set;

@@ -4,7 +4,7 @@ use Rattle.dump_sections.specs.Index.{IsIndexOf, sections_in}
 use Rattle.process_table.specs.Records.{record_sections}
 use Rattle.dump_trial.proofs.Contained.{small-records}
 use Rattle.dump_trial.proofs.Opened.{bodies-opened, small-opened}
-use Rattle.dump_trial.proofs.held.Held.procs.Goals as goal
+use Rattle.dump_trial.proofs.good_dump.GoodDump.procs.Goals as goal
 
 pub of_body-requires : goal.of_body-requires
 of_body-requires c =

@@ -5,7 +5,7 @@ use Rattle.dump_io.specs.File.{find_file}
 use Rattle.section_index.specs.Answers.{IsAnswerFor}
 use Rattle.dump_trial.proofs.Memory.{memory-opening}
 use Rattle.dump_trial.proofs.Opened.{file-held}
-use Rattle.dump_trial.proofs.held.Held.open.Goals as goal
+use Rattle.dump_trial.proofs.good_dump.GoodDump.open.Goals as goal
 
 pub of_opening-requires : goal.of_opening-requires
 of_opening-requires c =

@@ -6,7 +6,7 @@ ghost use Rattle.binary_refs.specs.Previews.{AreFor};
 ghost use Rattle.dump_sections.specs.Index.{IsIndexOf};
 ghost use Rattle.heap_cells.specs.DumpHeaps.{heap_map};
 ghost use Rattle.dump_trial.specs.Trial.{root_body};
-ghost use Rattle.dump_trial.specs.Inner.Held.{IsGood};
+ghost use Rattle.dump_trial.specs.Inner.GoodDumps.{IsGood};
 
 use crate::finder::Finder;
 use crate::only_memory;
@@ -25,15 +25,15 @@ const NAME: &str = "made";
 
 /// A good dump that is held in memory and open. Contracts see its bytes.
 #[derive(Drop)]
-pub(crate) struct Held {
+pub(crate) struct GoodDump {
     dumps: HeldDump,
     limits: Limits,
 }
 
-impl Model for Held {
+impl Model for GoodDump {
     ghost use Rattle.std.specs.Prelude.{ℕ, List};
     ghost use Rattle.dump_io.specs.HeldDump.{now_of};
-    ghost use Rattle.dump_trial.specs.Inner.Held.{bytes_in, IsOpened};
+    ghost use Rattle.dump_trial.specs.Inner.GoodDumps.{bytes_in, IsOpened};
 
     ghost Value = { List ℕ };
 
@@ -42,9 +42,9 @@ impl Model for Held {
     ghost invariant = { λ held. IsOpened (now_of held.dumps) held.limits };
 }
 
-impl Held {
+impl GoodDump {
     /// Holds the bytes of a good dump, opens it and returns it with its index.
-    pub(crate) fn open(alloc: Global, bytes: Vec<u8>) -> Result<(Held, Index), AllocError>
+    pub(crate) fn open(alloc: Global, bytes: Vec<u8>) -> Result<(GoodDump, Index), AllocError>
         requires { IsGood bytes.items }
         ensures held { IfOk result (λ opened. opened.0 ≡ bytes.items) }
         ensures index { IfOk result (λ opened. IsIndexOf bytes.items opened.1) }
@@ -53,7 +53,7 @@ impl Held {
         let name = String::from_str(alloc, NAME)?;
         let mut dumps = HeldDump::new(DumpFile::new(name, bytes));
         match build(alloc, &mut dumps, NAME, &limits) {
-            Ok(index) => Ok((Held { dumps, limits }, index)),
+            Ok(index) => Ok((GoodDump { dumps, limits }, index)),
             Err(fault) => Err(only_memory::of_opening(fault)),
         }
     }

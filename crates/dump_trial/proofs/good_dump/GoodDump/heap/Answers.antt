@@ -1,9 +1,9 @@
 use Rattle.std.proofs.Common.{sym, subst}
 use Rattle.dump_sections.specs.Index.{IsIndexOf}
-use Rattle.dump_trial.specs.Inner.Held.{bytes_in}
+use Rattle.dump_trial.specs.Inner.GoodDumps.{bytes_in}
 use Rattle.dump_io.specs.HeldDump.{now_of}
 use Rattle.dump_trial.proofs.Opened.{heap-opened}
-use Rattle.dump_trial.proofs.held.Held.heap.Goals as goal
+use Rattle.dump_trial.proofs.good_dump.GoodDump.heap.Goals as goal
 
 pub of_heap-requires : goal.of_heap-requires
 of_heap-requires c =

@@ -5,7 +5,7 @@ use Rattle.dump_sections.specs.Bodies.{section_at, section_in}
 use Rattle.dump_sections.specs.Index.{IsIndexOf}
 use Rattle.dump_trial.proofs.Contained.{IsSmall, small-at}
 use Rattle.dump_trial.proofs.Opened.{bodies-opened, root-at, small-opened}
-use Rattle.dump_trial.proofs.held.Held.root_body.Goals as goal
+use Rattle.dump_trial.proofs.good_dump.GoodDump.root_body.Goals as goal
 
 pub returns-in_default-clause-body : goal.returns-in_default-clause-body
 returns-in_default-clause-body c =
