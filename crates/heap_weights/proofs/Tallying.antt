@@ -15,7 +15,7 @@ use Rattle.heap_weights.specs.Holders.{holder_at, is_held}
 use Rattle.heap_weights.specs.Parts.{holder_of}
 use Rattle.heap_weights.specs.Shares.{AreShares, AreSharesFor, is_same, weight_below, weight_of, weights_from, words_below, words_if}
 use Rattle.heap_weights.specs.Labels.{Labelling}
-use Rattle.heap_weights.specs.Inner.Labels.{AreHeldBy, IsRested, Labelling}
+use Rattle.heap_weights.specs.Inner.Labels.{AreHeldBy, IsRested}
 use Rattle.heap_weights.specs.Inner.Tallies.{Gains, HasTallied, added_if, alone_at, no_weight}
 
 -- ---- one cell more
