@@ -67,6 +67,7 @@ try ext "$folder/external" "<0.1.0>" 10
 try reach "$folder/dump" "<0.4.0>"
 try audit "$folder/dump" 8 full
 try audit-json "$folder/dump" 8
+try audit-settled "$folder/dump" 8 full
 try cells "$folder/dump" "<0.4.0>"
 try binaries "$folder/dump"
 try holders "$folder/dump" 20

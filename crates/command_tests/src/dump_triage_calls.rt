@@ -1,11 +1,11 @@
-ghost use Rattle.std.specs.Prelude.{All};
+ghost use Rattle.std.specs.Prelude.{◌≡◌, length, All};
 ghost use Rattle.dump_sections.specs.Index.{IsBuiltOver};
 ghost use Rattle.process_table.specs.Processes.{IsProcessIn};
 
 use dump_io::{Dumps, Failed, Limits, MemDumps, MemSink, Sink, put_dec, write_all};
 use dump_sections::Index;
 use dump_triage::{FindingCounts, Ranked, Triage};
-use process_table::Procs;
+use process_table::{ProcSections, Procs, Stands};
 use section_index::build;
 use std::alloc::Global;
 use std::process::Abort;
@@ -60,10 +60,10 @@ const PRINTED: &str = "1 2
 -
 3 18446744073709551615
 2 18446744073709551615
-0 11
+0 88
 -
-2 6
-0 5
+2 48
+0 40
 -
 1 2
 -
@@ -73,7 +73,7 @@ const PRINTED: &str = "1 2
 -
 3 18446744073709551615
 -
-2 6
+2 48
 -
 ";
 
@@ -85,13 +85,16 @@ fn triage_with<D: Dumps>(
     dumps: &mut D,
     index: &Index,
     procs: &Procs,
+    stands: &Stands,
     most: u64,
 ) -> Result<Triage, Fail>
     requires over { IsBuiltOver (D.state dumps.old).now index.now }
     requires sections { All (IsProcessIn index.now) procs.now.processes }
+    requires stands { length stands.now ≡ length procs.now.processes }
 {
     let tables = Rows::load(alloc, dumps, index, TableKind::Ets, &Limits::usual())?;
-    Ok(Triage::of(alloc, index, procs, &tables, most)?)
+    let ports = Rows::load(alloc, dumps, index, TableKind::PortUses, &Limits::usual())?;
+    Ok(Triage::of(alloc, index, procs, stands, &tables, &ports, most)?)
 }
 
 fn triage_over<D: Dumps>(
@@ -102,8 +105,9 @@ fn triage_over<D: Dumps>(
 ) -> Result<Triage, Fail>
     requires { IsBuiltOver (D.state dumps.old).now index.now }
 {
-    let procs = Procs::load(alloc, dumps, index, &Limits::usual())?;
-    triage_with(alloc, dumps, index, &procs, most)
+    let found = ProcSections::find(alloc, index)?;
+    let (procs, stands) = Procs::read_standing(alloc, dumps, index, found, &Limits::usual())?;
+    triage_with(alloc, dumps, index, &procs, &stands, most)
 }
 
 fn triage_of<D: Dumps>(alloc: Global, dumps: &mut D, most: u64) -> Result<Triage, Fail> {

@@ -1,2 +1,3 @@
+pub mod GroupFacts
 pub mod RankFacts
 pub mod StateFacts

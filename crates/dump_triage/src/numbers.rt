@@ -3,9 +3,9 @@ ghost use Rattle.std.specs.Prelude.{◌≡◌, ◌<◌, length, IfOk};
 ghost use Rattle.section_rows.specs.Rows.{row_at};
 ghost use Rattle.dump_triage.specs.Triage.{largest_processes, largest_tables, longest_queues, most_binaries, words_in};
 
-use crate::ranked::{Ranked, first_rows, push_row, push_sum};
+use crate::ranked::{Ranked, first_rows, push_row, push_sum, push_words};
 use dump_io::dec_u64;
-use process_table::{Procs, binary_words, stated_number};
+use process_table::{Procs, binary_bytes, stated_number};
 use std::alloc::{AllocError, Global};
 use table_sections::Rows;
 
@@ -40,7 +40,7 @@ pub(crate) fn largest_processes(
     first_rows(rows, most)
 }
 
-// The processes whose binaries take the most words, at most `most`.
+// The processes whose binaries take the most bytes, at most `most`.
 pub(crate) fn most_binaries(
     alloc: Global,
     procs: &Procs,
@@ -50,7 +50,7 @@ pub(crate) fn most_binaries(
 {
     let mut rows = Vec::new(alloc);
     for p in 0..procs.len() {
-        push_sum(&mut rows, p, binary_words(&procs.at(p)))?;
+        push_sum(&mut rows, p, binary_bytes(&procs.at(p)))?;
     }
     first_rows(rows, most)
 }
@@ -64,7 +64,7 @@ fn words_at(tables: &Rows, i: usize) -> Option<u64>
     dec_u64(tables.cell(i, 4)?)
 }
 
-// The ETS tables with the most words, at most `most`.
+// The ETS tables with the most bytes, at most `most`.
 pub(crate) fn largest_tables(
     alloc: Global,
     tables: &Rows,
@@ -75,7 +75,7 @@ pub(crate) fn largest_tables(
 {
     let mut rows = Vec::new(alloc);
     for i in 0..tables.len() {
-        push_row(&mut rows, i, words_at(tables, i))?;
+        push_words(&mut rows, i, words_at(tables, i))?;
     }
     first_rows(rows, most)
 }

@@ -1,7 +1,8 @@
 // Places with a number each, the largest number first.
 ghost use Rattle.std.specs.Prelude.{◌≡◌, ◌++◌, IfOk, OnOk, Some};
-ghost use Rattle.std.specs.Option.{option_to_list};
+ghost use Rattle.std.specs.Option.{option_map, option_to_list};
 ghost use Rattle.dump_triage.specs.Ranking.{first_rows, ranked_row};
+ghost use Rattle.dump_triage.specs.Triage.{bytes_of};
 
 use std::alloc::AllocError;
 use text_groups::{Measured, sort_most_first};
@@ -48,6 +49,21 @@ pub(crate) fn push_sum(rows: &mut Vec<Ranked>, place: usize, sum: u128) -> Resul
     }
     rows.push(Ranked { place, number: sum })?;
     Ok(())
+}
+
+// Appends the row of a place with the bytes of its words, if these are known and aren't 0.
+pub(crate) fn push_words(
+    rows: &mut Vec<Ranked>,
+    place: usize,
+    words: Option<u64>,
+) -> Result<(), AllocError>
+    ensures { OnOk result (rows.new.items
+        ≡ rows.old.items ++ option_to_list (ranked_row place (option_map bytes_of words))) }
+{
+    match words {
+        None => Ok(()),
+        Some(words) => push_sum(rows, place, 8 * u128::from(words)),
+    }
 }
 
 // The first of these rows, at most `most`, with the largest first.

@@ -11,6 +11,7 @@
 
 mod holder_report;
 mod triage_report;
+mod triage_rows;
 
 pub use holder_report::{put_binaries, put_holders};
 pub use triage_report::put_triage;

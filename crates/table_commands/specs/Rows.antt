@@ -20,8 +20,9 @@ use Rattle.process_table.specs.Fields.{field_table}
 use Rattle.process_table.specs.Processes.{process_table}
 use Rattle.process_table.specs.Records.{record_sections}
 use Rattle.table_sections.specs.Fields.{section_fields, tagged}
+use Rattle.process_table.specs.Stands.{stand_rows}
 use Rattle.table_sections.specs.declared.kinds.TableKind.{TableKind}
-use Rattle.table_sections.specs.declared.kinds.TableKind.TheVariants.{Ets}
+use Rattle.table_sections.specs.declared.kinds.TableKind.TheVariants.{Ets, PortUses}
 use Rattle.table_sections.specs.Tables.{listed, table_of}
 use Rattle.dump_audit.specs.Audits.{audit_in}
 use Rattle.dump_audit.specs.Mailboxes.{audited_sections}
@@ -30,9 +31,10 @@ use Rattle.dump_audit.specs.Findings.{findings, Audit}
 use Rattle.dump_audit.specs.Flight.{signalled_in}
 use Rattle.json_report.specs.Trees.{audit_tree, json_text}
 
--- the first section, the first one on memory, those of the processes and those of the ETS tables
+-- the first section, the first one on memory, those of the processes, those of the ETS tables and those of the ports
 abbrev pub triage_sections : List Section → List Section
-triage_sections sections = ((first_body sections ++ memory_body sections) ++ record_sections sections) ++ listed Ets sections
+triage_sections sections =
+    (((first_body sections ++ memory_body sections) ++ record_sections sections) ++ listed Ets sections) ++ listed PortUses sections
 
 -- the report on the fields of a section
 abbrev pub fields_of : Part → List ℕ
@@ -59,7 +61,9 @@ told_in bytes = record {
   first = body_of bytes (first_section (sections bytes));
   memory = body_in bytes (memory_section (sections bytes));
   procs = process_table bytes;
+  stands = stand_rows bytes;
   tables = table_of Ets bytes;
+  ports = table_of PortUses bytes;
 }
 
 -- an audit with this limit on message queues, in full or not, that is shown in this way

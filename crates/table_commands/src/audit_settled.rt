@@ -35,7 +35,7 @@ impl Report for AuditSettled {
         let graph = Graph::build(at.alloc, &loaded.procs)?;
         let findings = find(at, loaded, &graph, self.limit)?;
         let parted = part(at.alloc, loaded.signalled.as_slice(), findings.as_slice())?;
-        let others = parted.in_flight.len() as u64;
+        let others = parted.in_flight.as_slice().len() as u64;
         let settled = parted.settled.as_slice();
         put_settled(out, at.index, &loaded.procs, &graph, settled, others)?;
         Ok(status(settled))

@@ -14,7 +14,7 @@ use dump_questions::{Body, Opened, Report, Stop, Unopened, or_stop, read_found, 
 use dump_sections::{BodyFault, LargeSection, large_body};
 use dump_triage::Triage as Found;
 use glance_text::put_triage;
-use process_table::{ProcSections, Procs};
+use process_table::{ProcSections, Procs, Stands};
 use std::alloc::AllocError;
 use table_sections::{Rows, TableKind, TableSections};
 
@@ -29,15 +29,19 @@ pub struct Places {
     memory: Option<usize>,
     procs: ProcSections,
     tables: TableSections,
+    ports: TableSections,
 }
 
-/// The bodies of the first section and of the first one on memory, the processes and the ETS tables.
+/// The bodies of the first section and of the first one on memory, the processes and where they
+/// stand, the ETS tables, and what the ports are.
 #[derive(Drop)]
 pub struct NodeTables {
     first: Body,
     memory: Body,
     procs: Procs,
+    stands: Stands,
     tables: Rows,
+    ports: Rows,
 }
 
 // Finds the sections that a triage loads after the first one.
@@ -47,10 +51,12 @@ fn find_places(at: &Opened<'_>) -> Result<Places, AllocError>
     let memory = at.index.first_tag(b"memory");
     let procs = ProcSections::find(at.alloc, at.index)?;
     let tables = TableSections::find(at.alloc, at.index, TableKind::Ets)?;
+    let ports = TableSections::find(at.alloc, at.index, TableKind::PortUses)?;
     Ok(Places {
         memory,
         procs,
         tables,
+        ports,
     })
 }
 
@@ -65,7 +71,8 @@ fn large_section(at: &Opened<'_>, places: &Places) -> Option<LargeSection>
     let memory = large_body(at.index, places.memory, at.limits);
     let procs = places.procs.large(at.index, at.limits);
     let tables = places.tables.large(at.index, at.limits);
-    first.or(memory).or(procs).or(tables)
+    let ports = places.ports.large(at.index, at.limits);
+    first.or(memory).or(procs).or(tables).or(ports)
 }
 
 // Reads the bodies of a triage, none of which is too large, one after another.
@@ -86,13 +93,16 @@ fn read_bodies<D: Dumps>(
 {
     let first = read_found(at, dumps, Some(0))?;
     let memory = read_found(at, dumps, places.memory)?;
-    let procs = Procs::read(at.alloc, dumps, at.index, places.procs, at.limits)?;
+    let (procs, stands) = Procs::read_standing(at.alloc, dumps, at.index, places.procs, at.limits)?;
     let tables = Rows::read(at.alloc, dumps, at.index, places.tables, at.limits)?;
+    let ports = Rows::read(at.alloc, dumps, at.index, places.ports, at.limits)?;
     Ok(NodeTables {
         first,
         memory,
         procs,
+        stands,
         tables,
+        ports,
     })
 }
 
@@ -135,16 +145,28 @@ impl Report for Triage {
             first,
             memory,
             procs,
+            stands,
             tables,
+            ports,
         } = loaded;
-        let found = Found::of(at.alloc, at.index, procs, tables, u64::from(self.count))?;
+        let found = Found::of(
+            at.alloc,
+            at.index,
+            procs,
+            stands,
+            tables,
+            ports,
+            u64::from(self.count),
+        )?;
         put_triage(
             out,
             at.index,
             first.bytes.as_slice(),
             memory.bytes.as_slice(),
             procs,
+            stands,
             tables,
+            ports,
             &found,
         )?;
         Ok(DONE)

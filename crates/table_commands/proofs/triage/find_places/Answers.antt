@@ -8,4 +8,6 @@ returns c =
       procs = c.in_ok-procs.ensures;
       kind = c.in_ok-tables.ensures.kind;
       tables = c.in_ok-tables.ensures.listed;
+      ports_kind = c.in_ok-ports.ensures.kind;
+      ports = c.in_ok-ports.ensures.listed;
     }

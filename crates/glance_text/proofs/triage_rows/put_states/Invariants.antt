@@ -2,7 +2,7 @@ use Rattle.std.proofs.Common.{take}
 use Rattle.std.specs.List.{flat_map}
 use Rattle.dump_io.specs.Sinks.{HasPut}
 use Rattle.glance_text.specs.Triage.{state_count_line}
-use Rattle.glance_text.proofs.triage_report.put_states.Given as goal
+use Rattle.glance_text.proofs.triage_rows.put_states.Given as goal
 
 -- the lines of the rows so far are written
 abbrev pub invariant-loop-row : goal.invariant-loop-row

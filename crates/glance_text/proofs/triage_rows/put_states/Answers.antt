@@ -1,7 +1,7 @@
 use Rattle.std.proofs.lemmas.Option.{slice_get-get_or}
 use Rattle.dump_io.specs.Laws.Puts.{HasPut-more, Puts-broken}
 use Rattle.glance_text.specs.Triage.{state_count_line}
-use Rattle.glance_text.proofs.triage_report.put_states.Goals as goal
+use Rattle.glance_text.proofs.triage_rows.put_states.Goals as goal
 
 pub loop-row-preserved : goal.loop-row-preserved
 loop-row-preserved g c =

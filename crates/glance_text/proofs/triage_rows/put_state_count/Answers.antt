@@ -4,7 +4,7 @@ use Rattle.dump_io.specs.Laws.Puts.{Puts-as}
 use Rattle.process_table.specs.Processes.{nobody}
 use Rattle.report_lines.specs.Lines.{line_of, tab}
 use Rattle.report_text.specs.Tables.{cell_text}
-use Rattle.glance_text.proofs.triage_report.put_state_count.Goals as goal
+use Rattle.glance_text.proofs.triage_rows.put_state_count.Goals as goal
 
 pub returns : goal.returns
 returns g c =

@@ -1,9 +1,0 @@
-use Rattle.std.proofs.Common.{take}
-use Rattle.std.specs.List.{flat_map}
-use Rattle.dump_io.specs.Sinks.{HasPut}
-use Rattle.glance_text.specs.Triage.{process_number_line}
-use Rattle.glance_text.proofs.triage_report.put_process_numbers.Given as goal
-
--- the lines of the rows so far are written
-abbrev pub invariant-loop-row : goal.invariant-loop-row
-invariant-loop-row g l = HasPut (g.K.Sink.state l.initial.sink) (g.K.Sink.state l.sink) (flat_map (process_number_line l.word l.index l.procs.processes) (take l.row-index l.rows))
