@@ -31,6 +31,7 @@
 //   hostile tuple FILE N      a thousand messages of one tuple of N bytes
 //   hostile flat FILE N       a thousand messages of one flat map of N bytes
 //   hostile hash FILE N       a thousand messages of one hash map of N bytes
+//   hostile keys FILE N       a hash map of a thousand pairs, the key of each of which is one tuple with an atom of N bytes
 //   hostile slices FILE N     a thousand messages, each of a sub binary of one heap binary of N bytes
 //   hostile shuffled FILE N   a list of N cells whose addresses ascend in the file, each of which leads anywhere
 //   hostile budgets FILE N    a thousand messages, each of which is the list of N cells from another thousandth of it on, so that
@@ -433,6 +434,20 @@ static void hash(FILE *f, long bytes) {
     fputs("\n20:lI1|I1\n", f);
 }
 
+static void keys(FILE *f, long bytes) {
+    if (plain) {
+        ordinary(f, 1000, bytes);
+        return;
+    }
+    put_heap(f);
+    fputs("10:Mh3E8:3E8:", f);
+    for (long i = 0; i < 1000; i++) fprintf(f, "%sH%lX", i ? "," : "", 16 * (i + 3));
+    fputs("\n20:t1:", f);
+    put_atom(f, bytes);
+    fputc('\n', f);
+    for (long i = 0; i < 1000; i++) fprintf(f, "%lX:lH20|I1\n", 16 * (i + 3));
+}
+
 static void slices(FILE *f, long bytes) {
     if (plain) {
         ordinary(f, 1000, bytes);
@@ -536,7 +551,7 @@ static const struct {
     {"subs", subs}, {"address", one_address}, {"falling", falling}, {"commas", commas}, {"equals", equals}, {"roots", roots},
     {"one_pid", one_pid}, {"star", star}, {"nested", nested}, {"counts", counts}, {"quoted", quoted},
     {"letters", letters}, {"marks", marks}, {"states", states}, {"frames", frames}, {"numbers", numbers},
-    {"inner", inner}, {"one_text", one_text}, {"texts", texts}, {"tuple", tuple}, {"flat", flat}, {"hash", hash},
+    {"inner", inner}, {"one_text", one_text}, {"texts", texts}, {"tuple", tuple}, {"flat", flat}, {"hash", hash}, {"keys", keys},
     {"slices", slices}, {"shuffled", shuffled}, {"budgets", budgets}, {"upwards", upwards}, {"one_cell", one_cell}, {"atoms", atoms},
 };
 

@@ -104,6 +104,7 @@ shape texts 20000
 shape tuple 1000000
 shape flat 1000000
 shape hash 1000000
+shape keys 20000000
 shape slices 400000
 shape shuffled 2000000
 shape budgets 1000000 1500

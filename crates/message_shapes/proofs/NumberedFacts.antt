@@ -1,19 +1,17 @@
 -- The numbers of the shapes of messages.
-use Rattle.std.proofs.Common.{◌≡◌, ℕ, ◌+◌, ◌<◌, ◌==◌, List, [], ◌∷◌, ◌++◌, length, get_or, map, take, None, Some, refl, sym, ◌∙◌, ap, ap₂, subst, arith, length-append}
+use Rattle.std.proofs.Common.{◌≡◌, ℕ, ◌+◌, ◌<◌, List, [], ◌∷◌, ◌++◌, length, get_or, map, take, None, Some, refl, sym, ◌∙◌, ap, ap₂, subst, arith, length-append}
 use Rattle.std.specs.Prelude.{All, slice_get}
 use Rattle.std.specs.Option.{option_map}
 use Rattle.std.specs.Str.{bytes_eq}
 use Rattle.std.proofs.Math.ListN.{get_or-append}
-use Rattle.std.proofs.lemmas.Bool.{eqb-true}
 use Rattle.std.proofs.lemmas.List.{get_or-map, get_or_default, length-map, map-append}
 use Rattle.std.proofs.lemmas.List.Quantifiers.{position-Some}
-use Rattle.std.proofs.lemmas.Option.{get_or_from_slice_get, slice_get-get_or, slice_get-map}
+use Rattle.std.proofs.lemmas.Option.{slice_get-get_or, slice_get-map}
 use Rattle.dump_io.specs.Laws.Lists.{position-at, take-at}
 use Rattle.text_groups.specs.Numbers.{number_in, weightless, HaveNumbers, IsGrown}
 use Rattle.message_shapes.specs.Messages.{Message, item_of, message_at}
 use Rattle.message_shapes.specs.Inner.Shaped.{message_with, messages_with, shape_with, shapes_of}
 use Rattle.message_shapes.specs.Inner.Telling.{Told, told_at, OfText}
-use Rattle.tuple_fronts.specs.CellSets.{place_of}
 
 -- more texts change no number
 number-kept : (known more : List (List ℕ)) (text : List ℕ) (n : ℕ) → number_in known text ≡ Some n → number_in (known ++ more) text ≡ Some n

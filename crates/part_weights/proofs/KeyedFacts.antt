@@ -1,5 +1,5 @@
 -- Parts whose labels are keys.
-use Rattle.std.proofs.Common.{◌≡◌, ℕ, zero, suc, ◌+◌, ◌<◌, ◌==◌, Bool, true, false, if◌then◌else◌, List, [], ◌∷◌, ◌++◌, length, map, take, Option, None, Some, refl, sym, ◌∙◌, ap, ap₂, subst, append_assoc, append-nil, arith, length-append}
+use Rattle.std.proofs.Common.{◌≡◌, ℕ, zero, suc, ◌+◌, ◌<◌, Bool, true, false, if◌then◌else◌, List, [], ◌∷◌, ◌++◌, length, map, take, Option, None, Some, refl, sym, ◌∙◌, ap, ap₂, subst, append_assoc, arith, length-append}
 use Rattle.std.specs.Prelude.{◌||◌, All, codes, filter, option_map, slice_get, slice_index_or}
 use Rattle.std.specs.List.{cons_option, enumerate_from, filter_map, list_any}
 use Rattle.std.specs.Option.{option_and_then, option_map_or}
@@ -20,7 +20,7 @@ use Rattle.tuple_fronts.specs.Fronts.{cells_for}
 use Rattle.tuple_fronts.specs.KeyPlaces.{key_place}
 use Rattle.tuple_fronts.specs.Keys.{key_label, place_shape}
 use Rattle.tuple_fronts.specs.Laws.Keys.{labels-are}
-use Rattle.part_weights.specs.Weights.{Row, first_parts, keyed, row_of, rows_of, weighing, with_key}
+use Rattle.part_weights.specs.Weights.{first_parts, keyed, row_of, rows_of, weighing, with_key}
 use Rattle.part_weights.specs.Inner.Held.{sorted_parts}
 use Rattle.part_weights.specs.Inner.Shown.{AreParts, held_place, labelled_row, labelled_rows, no_part, part_place, row_at, rows_at, weighing_with}
 use Rattle.part_weights.specs.declared.held_parts.HeldPart.{HeldPart}

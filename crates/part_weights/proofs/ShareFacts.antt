@@ -15,9 +15,8 @@ use Rattle.heap_weights.specs.Shares.{weight_below, weights_from, words_below, w
 use Rattle.heap_weights.specs.declared.holders.Holder.{Holder}
 use Rattle.heap_weights.specs.declared.shares.Shares.{Shares}
 use Rattle.heap_weights.specs.declared.shares.Weight.{Weight}
-use Rattle.text_groups.specs.Sorting.{most_first}
 use Rattle.part_weights.specs.Weights.{cell_weighing, rows_of, weighing}
-use Rattle.part_weights.specs.Inner.Held.{held_parts, sorted_parts}
+use Rattle.part_weights.specs.Inner.Held.{sorted_parts}
 use Rattle.part_weights.specs.Inner.Shown.{AreParts, labelled_rows, weighing_with}
 use Rattle.part_weights.proofs.HeldFacts.{rows-sorted}
 use Rattle.part_weights.proofs.KeyedFacts.{plain-rows}

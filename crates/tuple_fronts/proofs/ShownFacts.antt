@@ -19,7 +19,7 @@ use Rattle.heap_skeleton.specs.Skeletons.{SkeletonMap, heap_in, is_tuple, is_tup
 use Rattle.term_forms.specs.Elements.{Element, Ref}
 use Rattle.term_forms.specs.Forms.{HeapForm, Tuple}
 use Rattle.tuple_fronts.specs.Fronts.{form_front, front_of, fronts_for}
-use Rattle.tuple_fronts.specs.Shapes.{cell_shape_with, comma_list, element_with, form_with, inner_shape, or_pid, subject_with, tag_text, tags_with, tuple_text}
+use Rattle.tuple_fronts.specs.Shapes.{cell_shape_with, comma_list, element_with, form_with, inner_shape, or_pid, subject_with, tag_text, tags_with, tuple_text, cell_shape, element_shape, form_shape, subject_shape, tag_texts}
 use Rattle.tuple_fronts.specs.Inner.CellTexts.{comma_behind, element_text, inner_text, kind_text, subject_text, tuple_with}
 use Rattle.tuple_fronts.specs.CellSets.{cell_with, place_of}
 use Rattle.tuple_fronts.specs.Inner.Tuples.{TupleMap, front_at, lead_tuple, needed, needed_at}

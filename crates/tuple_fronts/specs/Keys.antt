@@ -1,6 +1,6 @@
 -- Under which key a part of a map stands. A part is a cell, and stands at the place of the first of the weighed elements
 -- of another cell that leads to it.
-use Rattle.std.specs.Prelude.{ℕ, zero, suc, List, [], codes, map, Option, None, Some, slice_get}
+use Rattle.std.specs.Prelude.{ℕ, zero, suc, List, [], codes, map, Option, Some, slice_get}
 use Rattle.std.specs.Option.{option_map_or}
 use Rattle.dump_sections.specs.Index.{Contents}
 use Rattle.heap_cells.specs.Cells.{Cell}

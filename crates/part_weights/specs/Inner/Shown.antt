@@ -1,5 +1,5 @@
 -- Parts with what they alone hold, as they are kept.
-use Rattle.std.specs.Prelude.{◌≡◌, ℕ, ◌<◌, List, [], length, map, All, Option, None, Some, slice_index_or}
+use Rattle.std.specs.Prelude.{ℕ, ◌<◌, List, [], length, map, All, Option, None, Some, slice_index_or}
 use Rattle.std.specs.List.{enumerate_from}
 use Rattle.cell_parts.specs.Parts.{CellPart, CellParts}
 use Rattle.cell_words.specs.Binaries.{binaries_among}

@@ -1,5 +1,5 @@
 -- How fronts are kept: the texts of all their elements in one pool.
-use Rattle.std.specs.Prelude.{◌≡◌, ℕ, ◌+◌, ◌-◌, ◌≤◌, ◌==◌, slice_index, slice_index_or, if◌then◌else◌, List, [], ◌∷◌, ◌++◌, length, map, take, slice_range, unwrap_or, All, IfSome, Option, Some}
+use Rattle.std.specs.Prelude.{◌≡◌, ℕ, ◌+◌, ◌-◌, ◌≤◌, ◌==◌, slice_index, slice_index_or, if◌then◌else◌, List, [], ◌∷◌, ◌++◌, length, map, take, slice_range, unwrap_or, IfSome, Option, Some}
 use Rattle.term_forms.specs.Elements.{Element, Nil}
 use Rattle.term_forms.specs.Reading.{whole_of}
 use Rattle.tuple_fronts.specs.declared.kept.Kept.{Kept}

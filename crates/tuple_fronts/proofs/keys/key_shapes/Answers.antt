@@ -1,4 +1,4 @@
-use Rattle.std.proofs.Common.{◌≡◌, ◌∙◌, ap, length}
+use Rattle.std.proofs.Common.{◌∙◌, ap, length}
 use Rattle.std.proofs.lemmas.List.{length-map}
 use Rattle.tuple_fronts.specs.Inner.KeyTexts.{key_text}
 use Rattle.tuple_fronts.proofs.KeyFacts.{keys-shown}

@@ -1,8 +1,8 @@
-use Rattle.std.proofs.Common.{◌++◌, [], ◌∷◌, List, ◌∙◌, ap, subst, sym}
-use Rattle.message_shapes.specs.Inner.Telling.{all_told, AreKnown, OfText, Told}
+use Rattle.std.proofs.Common.{◌++◌, [], ◌∷◌, List, ◌∙◌, ap}
+use Rattle.message_shapes.specs.Inner.Telling.{all_told, OfText, Told}
 use Rattle.message_shapes.specs.declared.heard.Found.{Found}
 use Rattle.message_shapes.specs.declared.heard.Subject.TheVariants as subject
-use Rattle.message_shapes.proofs.HeardFacts.{known-more, known-text, told-text}
+use Rattle.message_shapes.proofs.HeardFacts.{told-text}
 use Rattle.message_shapes.proofs.heard.Heard.push_text.Goals as goal
 
 pub returns : goal.returns

@@ -1,4 +1,4 @@
-use Rattle.std.proofs.Common.{sym, ◌∙◌, ap, Some, arith}
+use Rattle.std.proofs.Common.{sym, ◌∙◌, ap, Some}
 use Rattle.std.specs.Prelude.{option_map}
 use Rattle.heap_skeleton.specs.Skeletons.{skeleton_for}
 use Rattle.tuple_fronts.specs.Fronts.{cells_for}

@@ -1,5 +1,5 @@
-use Rattle.std.proofs.Common.{◌≡◌, ◌<◌, Some, length, sym, ◌∙◌, ap, subst, arith}
-use Rattle.std.specs.Prelude.{All, slice_get, slice_index_or}
+use Rattle.std.proofs.Common.{Some, length, sym, ◌∙◌, ap, arith}
+use Rattle.std.specs.Prelude.{slice_get}
 use Rattle.part_weights.specs.Weights.{Weighing}
 use Rattle.part_weights.specs.Inner.Shown.{row_at}
 use Rattle.part_weights.proofs.KeyedFacts.{held-within, row-there, rows-count}
