@@ -37,6 +37,7 @@
 //   hostile budgets FILE N    a thousand messages, each of which is the list of N cells from another thousandth of it on, so that
 //                             what is shown of one ends in what is shown of the next
 //   hostile upwards FILE N    a list of N cells, each of which leads to the line before
+//   hostile chain FILE N      N tuples, each of which leads to the line before, and a root that refers to the last of them
 //   hostile one_cell FILE N   N messages of one cell
 //   hostile atoms FILE N      N messages, each a quoted atom of 255 bytes
 #include <stdio.h>
@@ -522,6 +523,16 @@ static void upwards(FILE *f, long count) {
     fprintf(f, "10:lI1|H%lX\n", 16 * count);
 }
 
+static void chain(FILE *f, long count) {
+    if (plain) {
+        ordinary(f, 1, 40 * count);
+        return;
+    }
+    put_process(f, 1);
+    fprintf(f, "=proc_stack:<0.1.0>\ny0:H%lX\n=proc_heap:<0.1.0>\n10:t1:I1\n", 16 * count);
+    for (long i = 2; i <= count; i++) fprintf(f, "%lX:t1:H%lX\n", 16 * i, 16 * (i - 1));
+}
+
 static void one_cell(FILE *f, long count) {
     if (plain) {
         ordinary(f, count, 40);
@@ -552,7 +563,7 @@ static const struct {
     {"one_pid", one_pid}, {"star", star}, {"nested", nested}, {"counts", counts}, {"quoted", quoted},
     {"letters", letters}, {"marks", marks}, {"states", states}, {"frames", frames}, {"numbers", numbers},
     {"inner", inner}, {"one_text", one_text}, {"texts", texts}, {"tuple", tuple}, {"flat", flat}, {"hash", hash}, {"keys", keys},
-    {"slices", slices}, {"shuffled", shuffled}, {"budgets", budgets}, {"upwards", upwards}, {"one_cell", one_cell}, {"atoms", atoms},
+    {"slices", slices}, {"shuffled", shuffled}, {"budgets", budgets}, {"upwards", upwards}, {"chain", chain}, {"one_cell", one_cell}, {"atoms", atoms},
 };
 
 int main(int count, char **words) {

@@ -109,6 +109,7 @@ shape slices 400000
 shape shuffled 2000000
 shape budgets 1000000 1500
 shape upwards 500000
+shape chain 1000000
 shape one_cell 1000000
 shape atoms 100000
 exit "$slow"

@@ -10,7 +10,7 @@ use Rattle.table_sections.specs.declared.kinds.TableKind.TheVariants as kinds
 use Rattle.command_words.specs.declared.words.Cmd.{Cmd}
 use Rattle.command_words.specs.declared.words.Cmd.TheVariants.{On, Make, Trial}
 use Rattle.command_words.specs.declared.words.Query.{Query}
-use Rattle.command_words.specs.declared.words.Query.TheVariants.{Index, Info, Procs, Proc, Memory, Field, Table, Roots, Term, PeekTerm, PeekRoots, Ext, Reach, Shapes, Weigh, WeighCell, Cells, Binary, Binaries, Holders, Triage, Stacks, Links, Redact, Audit, AuditJson, AuditSettled, Fields}
+use Rattle.command_words.specs.declared.words.Query.TheVariants.{Index, Info, Procs, Proc, Memory, Field, Table, Roots, Term, PeekTerm, PeekRoots, Ext, Reach, Shapes, Weigh, WeighCell, Cells, Binary, Binaries, Holders, Triage, Stacks, Links, Redact, Audit, AuditJson, AuditSettled, Fields, Path}
 use Rattle.command_words.specs.Budgets.{budget_of}
 use Rattle.command_words.specs.Ranges.{number_upto}
 
@@ -31,19 +31,21 @@ pub data Ask : Type 0 where
   roots : RootKind → List ℕ → ℕ → Bool → Ask
   -- the term at this address, in the heap of the process with this pid
   term : List ℕ → ℕ → ℕ → Bool → Ask
-  -- the same, whatever the size of the heap
+  -- the term at an address, as a process refers to it, whatever the size of the heap
   peek_term : List ℕ → ℕ → ℕ → Bool → Ask
   -- of the roots of this process those from this place on, at most this many, whatever the sizes of the bodies
   peek_roots : RootKind → List ℕ → ℕ → ℕ → ℕ → Bool → Ask
   -- the external term at this address, in the heap of the process with this pid
   ext : List ℕ → ℕ → Ask
+  -- by which way the roots of the process with this pid reach the cell at this address
+  path : List ℕ → ℕ → Ask
   -- what the roots of the process with this pid reach
   reach : List ℕ → Ask
   -- what kinds of messages the process with this pid has in its mailbox, at most this many of them, with pids shown or not
   shapes : List ℕ → ℕ → Bool → Ask
   -- what each of the cells alone holds to which the roots of the process with this pid refer, at most this many of them
   weigh : List ℕ → ℕ → Ask
-  -- the same of the cells to which the elements of the cell at this address refer
+  -- what the cells alone hold to which the elements of the cell at this address refer
   weigh_cell : List ℕ → ℕ → ℕ → Ask
   -- what is on the heap of the process with this pid
   cells : List ℕ → Ask
@@ -62,7 +64,7 @@ pub data Ask : Type 0 where
   redact : Ask
   -- an audit with this limit on message queues, in full or not
   audit : ℕ → Bool → Ask
-  -- the same as one JSON text
+  -- the findings of an audit as one JSON text
   audit_json : ℕ → Bool → Ask
   -- such an audit without the findings that are in flight
   audit_settled : ℕ → Bool → Ask
@@ -91,6 +93,7 @@ shown_query (Term pid addr nodes marked) = term pid.now addr nodes marked
 shown_query (PeekTerm pid addr nodes marked) = peek_term pid.now addr nodes marked
 shown_query (PeekRoots kind pid first count nodes marked) = peek_roots kind pid.now first count nodes marked
 shown_query (Ext pid addr) = ext pid.now addr
+shown_query (Path pid addr) = path pid.now addr
 shown_query (Reach pid) = reach pid.now
 shown_query (Shapes pid count pids) = shapes pid.now count pids
 shown_query (Weigh pid count) = weigh pid.now count
@@ -157,10 +160,10 @@ peek_query pid (what ∷ words) =
     else (if bytes_eq what (codes "mail") then some_roots_query bodies.Mail pid words
     else term_query peek_term pid (what ∷ words)))
 
--- the external term at an address, which is in hex
-abbrev pub ext_query : List ℕ → List (List ℕ) → Option Ask
-ext_query pid (addr ∷ []) = option_map (ext pid) (hex_number addr)
-ext_query pid words = None
+-- what is asked of the cell at an address, which is in hex: the external term there, or the way to it
+abbrev pub cell_query : (List ℕ → ℕ → Ask) → List ℕ → List (List ℕ) → Option Ask
+cell_query form pid (addr ∷ []) = option_map (form pid) (hex_number addr)
+cell_query form pid words = None
 
 -- whether a word is `pids`
 abbrev pub is_pids : List ℕ → Bool
@@ -210,11 +213,12 @@ process_query name word words =
     else (if bytes_eq name (codes "peek") then peek_query word words
     else (if bytes_eq name (codes "shapes") then shapes_query word words
     else (if bytes_eq name (codes "weigh") then weigh_query word words
-    else (if bytes_eq name (codes "ext") then ext_query word words
+    else (if bytes_eq name (codes "ext") then cell_query ext word words
+    else (if bytes_eq name (codes "path") then cell_query path word words
     else (if bytes_eq name (codes "fields") then fields_query word words
     else (if bytes_eq name (codes "audit") then audit_query audit word words
     else (if bytes_eq name (codes "audit-json") then audit_query audit_json word words
-    else (if bytes_eq name (codes "audit-settled") then audit_query audit_settled word words else None)))))))))))
+    else (if bytes_eq name (codes "audit-settled") then audit_query audit_settled word words else None))))))))))))
 
 -- what a command asks with another word
 abbrev pub word_query : List ℕ → List ℕ → Option Ask
@@ -267,7 +271,7 @@ IsAskInRange (triage count) = (1 ≤ count) × (count ≤ 1000)
 IsAskInRange (stacks count) = (1 ≤ count) × (count ≤ 1000)
 IsAskInRange ask = Unit {0}
 
--- and so are those of a command
+-- the numbers of a command are in the ranges that it takes
 abbrev pub IsInRange : Command → Type 0
 IsInRange (on file ask) = IsAskInRange ask
 IsInRange (make seed count) = (1 ≤ count) × (count ≤ 200000)

@@ -2,7 +2,7 @@
 ghost use Rattle.std.specs.Prelude.{◌≡◌, ◌<◌, ℕ, Bool, [], ◌∷◌, List, map, option_map};
 ghost use Rattle.std.specs.Option.{IfSome};
 ghost use Rattle.std.specs.String.{string_bytes};
-ghost use Rattle.command_words.specs.Command.{Ask, audit, audit_json, audit_query, audit_settled, binary, command, ext_query, full_of, holders, on, peek_query, peek_term, plain_query, process_query, roots_query, shapes_query, shown_command, shown_query, some_roots_query, stacks, term, term_query, triage, weigh_query, word_command, word_query, IsAskInRange, IsInRange, counted_shapes, is_pids, fields_query};
+ghost use Rattle.command_words.specs.Command.{Ask, audit, audit_json, audit_query, audit_settled, binary, command, full_of, holders, on, peek_query, peek_term, plain_query, process_query, roots_query, shapes_query, shown_command, shown_query, some_roots_query, stacks, term, term_query, triage, weigh_query, word_command, word_query, IsAskInRange, IsInRange, counted_shapes, is_pids, fields_query, cell_query, ext, path};
 ghost use Rattle.command_words.specs.Ranges.{number_upto};
 ghost use Rattle.dump_io.specs.Numbers.{hex_number};
 
@@ -77,7 +77,7 @@ pub enum Query<'a> {
         nodes: u32,
         marked: bool,
     },
-    /// `peek FILE PID ADDR [NODES] [marked]`: the same, whatever the size of the heap.
+    /// `peek FILE PID ADDR [NODES] [marked]`: the term at an address, as a process refers to it, whatever the size of the heap.
     PeekTerm {
         pid: &'a str,
         addr: u64,
@@ -100,6 +100,12 @@ pub enum Query<'a> {
         pid: &'a str,
         addr: u64,
     },
+    /// `path FILE PID ADDR`: by which way the roots of a process reach the
+    /// cell at an address, whatever the size of the heap.
+    Path {
+        pid: &'a str,
+        addr: u64,
+    },
     /// `reach FILE PID`: which cells of a process's heap its roots don't reach, and how many they do reach.
     Reach {
         pid: &'a str,
@@ -118,7 +124,7 @@ pub enum Query<'a> {
         pid: &'a str,
         count: u32,
     },
-    /// `weigh FILE PID N ADDR`: the same of the cells to which the elements of the cell at an address refer.
+    /// `weigh FILE PID N ADDR`: what the cells alone hold to which the elements of the cell at an address refer.
     WeighCell {
         pid: &'a str,
         count: u32,
@@ -159,7 +165,7 @@ pub enum Query<'a> {
         limit: u64,
         full: bool,
     },
-    /// `audit-json FILE LIMIT [full]`: the same findings as one JSON text.
+    /// `audit-json FILE LIMIT [full]`: the findings of an audit as one JSON text.
     AuditJson {
         limit: u64,
         full: bool,
@@ -304,6 +310,7 @@ fn process_query<'a>(name: &str, word: &'a str, words: &'a [String]) -> Option<Q
         "weigh" => weigh_query(word, words),
         "ext" => ext_query(word, words),
         "fields" => fields_query(word, words),
+        "path" => path_query(word, words),
         "audit" => audit_query(word, words),
         "audit-json" => audit_json_query(word, words),
         "audit-settled" => audit_settled_query(word, words),
@@ -491,14 +498,22 @@ fn weigh_query<'a>(pid: &'a str, words: &[String]) -> Option<Query<'a>>
     }
 }
 
-fn ext_query<'a>(pid: &'a str, words: &[String]) -> Option<Query<'a>>
-    ensures reads { option_map shown_query result ≡ ext_query pid.now (map string_bytes words.now) }
-    ensures range { IfSome result (λ query. IsAskInRange (shown_query query)) }
+// The address that is the only one of some words.
+fn only_address(words: &[String]) -> Option<u64>
+    ensures { (form : List ℕ → ℕ → Ask) (pid : List ℕ)
+        → option_map (form pid) result ≡ cell_query form pid (map string_bytes words.now) }
 {
     let [addr] = words else {
         return None;
     };
-    let addr = hex_u64(addr.as_bytes())?;
+    hex_u64(addr.as_bytes())
+}
+
+fn ext_query<'a>(pid: &'a str, words: &[String]) -> Option<Query<'a>>
+    ensures reads { option_map shown_query result ≡ cell_query ext pid.now (map string_bytes words.now) }
+    ensures range { IfSome result (λ query. IsAskInRange (shown_query query)) }
+{
+    let addr = only_address(words)?;
     Some(Query::Ext { pid, addr })
 }
 
@@ -514,6 +529,14 @@ fn fields_query<'a>(tag: &'a str, words: &'a [String]) -> Option<Query<'a>>
         tag,
         key: key.as_str(),
     })
+}
+
+fn path_query<'a>(pid: &'a str, words: &[String]) -> Option<Query<'a>>
+    ensures reads { option_map shown_query result ≡ cell_query path pid.now (map string_bytes words.now) }
+    ensures range { IfSome result (λ query. IsAskInRange (shown_query query)) }
+{
+    let addr = only_address(words)?;
+    Some(Query::Path { pid, addr })
 }
 
 // Whether an audit is full, from its last words.

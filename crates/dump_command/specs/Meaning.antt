@@ -1,9 +1,9 @@
 -- What each question to a dump means: its row.
 use Rattle.dump_questions.specs.Meaning.{Meaning}
-use Rattle.command_words.specs.Command.{Ask, index, info, procs, proc, memory, field, table, triage, links, audit, audit_json, audit_settled, roots, term, peek_term, peek_roots, ext, reach, cells, binary, shapes, weigh, weigh_cell, binaries, holders, stacks, redact, fields}
+use Rattle.command_words.specs.Command.{Ask, index, info, procs, proc, memory, field, table, triage, links, audit, audit_json, audit_settled, roots, term, peek_term, peek_roots, ext, reach, cells, binary, shapes, weigh, weigh_cell, binaries, holders, stacks, redact, fields, path}
 use Rattle.table_commands.specs.Rows.{index_row, info_row, procs_row, proc_row, memory_row, field_row, table_row, triage_row, links_row, audit_row, audit_json_row, audit_settled_row, fields_row}
 use Rattle.heap_commands.specs.Rows.{roots_row, term_row, peek_term_row, peek_roots_row, ext_row, reach_row, cells_row, binary_row}
-use Rattle.stream_commands.specs.Rows.{shapes_row, weigh_row, weigh_cell_row, holders_row, binaries_row, stacks_row, redact_row}
+use Rattle.stream_commands.specs.Rows.{path_row, shapes_row, weigh_row, weigh_cell_row, holders_row, binaries_row, stacks_row, redact_row}
 
 -- the row of each question
 abbrev pub meaning : Ask → Meaning
@@ -20,6 +20,7 @@ meaning (term pid addr nodes marked) = term_row pid addr nodes marked
 meaning (peek_term pid addr nodes marked) = peek_term_row pid addr nodes marked
 meaning (peek_roots kind pid first count nodes marked) = peek_roots_row kind pid first count nodes marked
 meaning (ext pid addr) = ext_row pid addr
+meaning (path pid addr) = path_row pid addr
 meaning (reach pid) = reach_row pid
 meaning (shapes pid most pids) = shapes_row pid most pids
 meaning (weigh pid most) = weigh_row pid most

@@ -13,7 +13,8 @@ use heap_commands::{
 };
 use std::alloc::Global;
 use stream_commands::{
-    run_binaries, run_holders, run_redact, run_shapes, run_stacks, run_weigh, run_weigh_cell,
+    run_binaries, run_holders, run_path, run_redact, run_shapes, run_stacks, run_weigh,
+    run_weigh_cell,
 };
 use table_commands::{
     run_audit, run_audit_json, run_audit_settled, run_field, run_fields, run_index, run_info,
@@ -103,6 +104,7 @@ fn run_query<D: Dumps, K: Sink>(
             out,
         ),
         Query::Ext { pid, addr } => run_ext(dump, pid.as_bytes(), addr, dumps, out),
+        Query::Path { pid, addr } => run_path(dump, pid.as_bytes(), addr, dumps, out),
         Query::Reach { pid } => run_reach(dump, pid.as_bytes(), dumps, out),
         Query::Shapes { pid, count, pids } => {
             run_shapes(dump, pid.as_bytes(), count, pids, dumps, out)

@@ -1,5 +1,6 @@
 mod CutLoads
 mod HolderLoads
+mod PathLoads
 mod Redacting
 pub mod RowFacts
 mod WeightLoads

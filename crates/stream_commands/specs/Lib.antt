@@ -1,4 +1,5 @@
 pub mod Inner
+pub mod Paths
 pub mod Rows
 pub mod Shapes
 pub mod Stacks

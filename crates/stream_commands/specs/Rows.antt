@@ -24,6 +24,8 @@ use Rattle.message_shapes.specs.Messages.{mail_shapes, ShapeMap}
 use Rattle.stream_commands.specs.Shapes.{shapes_report}
 use Rattle.part_weights.specs.Weights.{address_weighing, root_weighing, Weighing}
 use Rattle.stream_commands.specs.Weights.{weights_report}
+use Rattle.heap_ways.specs.Ways.{heap_way, Way}
+use Rattle.stream_commands.specs.Paths.{path_report}
 use Rattle.term_text.specs.Cuts.{all_roots, cut_report}
 use Rattle.dump_redact.specs.Redacted.{redacted}
 use Rattle.dump_redact.specs.Refusals.{heap_sections}
@@ -124,6 +126,17 @@ weigh_cell_row pid most addr = with_cuts [] (record (heap_question pid) {
   what = λ bytes. address_weighing bytes (index_of bytes) pid most addr;
   show = λ found. option_map_or (weights_report most) found [];
   more = λ limits bytes. 2 * bodies_length (heap_bodies pid (sections bytes));
+})
+
+-- by which way the roots of the process with this pid reach the cell at this address
+abbrev pub path_row : List ℕ → ℕ → Meaning
+path_row pid addr = with_cuts all_roots (record (heap_question pid) {
+  also = root_bodies pid;
+  refuses = no_address addr;
+  What = Option Way;
+  what = λ bytes. heap_way bytes (index_of bytes) pid addr;
+  show = λ found. option_map_or path_report found [];
+  more = λ limits bytes. bodies_length (heap_bodies pid (sections bytes));
 })
 
 -- which processes hold the binary with this address

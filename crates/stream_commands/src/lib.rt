@@ -1,5 +1,5 @@
 //! The commands that go over bodies of any size in pieces: the shapes of messages, the weights of parts
-//! of a heap, who holds binaries, where processes stand, and the redacted dump.
+//! of a heap, the ways to its cells, who holds binaries, where processes stand, and the redacted dump.
 //!
 //! ```text
 //! let dump = Unopened { alloc, file: "erl_crash.dump", limits: &limits };
@@ -12,6 +12,8 @@
 
 mod binaries;
 mod holders;
+mod path;
+mod path_report;
 mod redact;
 mod shape_report;
 mod shapes;
@@ -22,6 +24,8 @@ mod weight_report;
 
 pub use binaries::run_binaries;
 pub use holders::run_holders;
+pub use path::run_path;
+pub use path_report::put_path;
 pub use redact::run_redact;
 pub use shape_report::put_shapes;
 pub use shapes::run_shapes;

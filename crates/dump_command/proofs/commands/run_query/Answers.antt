@@ -1,5 +1,5 @@
 use Rattle.std.proofs.Common.{sym, ◌∙◌, ap}
-use Rattle.command_words.specs.Command.{shown_query, cells, ext, field, fields, peek_roots, peek_term, proc, reach, roots, shapes, term, weigh, weigh_cell}
+use Rattle.command_words.specs.Command.{shown_query, cells, ext, field, fields, peek_roots, peek_term, proc, reach, roots, shapes, term, weigh, weigh_cell, path}
 use Rattle.dump_command.proofs.Asked.{runs-asked}
 use Rattle.dump_command.proofs.commands.run_query.Goals as goal
 
@@ -41,6 +41,9 @@ returns-in-PeekTerm g c = runs-asked (ap shown_query c.in-PeekTerm.is ∙ ap (λ
 
 pub returns-in-PeekRoots : goal.returns-in-PeekRoots
 returns-in-PeekRoots g c = runs-asked (ap shown_query c.in-PeekRoots.is ∙ ap (λ p. peek_roots c.in-PeekRoots.kind p c.in-PeekRoots.first c.in-PeekRoots.count c.in-PeekRoots.nodes c.in-PeekRoots.marked) (sym c.as_bytes-in-PeekRoots.ensures.value)) c.run_peek_roots.ensures
+
+pub returns-in-Path : goal.returns-in-Path
+returns-in-Path g c = runs-asked (ap shown_query c.in-Path.is ∙ ap (λ p. path p c.in-Path.addr) (sym c.as_bytes-in-Path.ensures.value)) c.run_path.ensures
 
 pub returns-in-Ext : goal.returns-in-Ext
 returns-in-Ext g c = runs-asked (ap shown_query c.in-Ext.is ∙ ap (λ p. ext p c.in-Ext.addr) (sym c.as_bytes-in-Ext.ensures.value)) c.run_ext.ensures

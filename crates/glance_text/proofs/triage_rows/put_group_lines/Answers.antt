@@ -1,6 +1,6 @@
 use Rattle.std.proofs.Common.{ap}
 use Rattle.std.specs.List.{flat_map}
-use Rattle.dump_io.specs.Laws.Puts.{Puts-as, Puts-then, Puts-stopped}
+use Rattle.dump_io.specs.Laws.Puts.{Puts-as, Puts-then}
 use Rattle.glance_text.specs.Triage.{group_line, standing, state_count_line}
 use Rattle.glance_text.proofs.triage_rows.put_group_lines.Goals as goal
 

@@ -1,4 +1,4 @@
-use Rattle.std.proofs.Common.{◌<◌, length, min, take, arith, ◌∙◌}
+use Rattle.std.proofs.Common.{◌<◌, take, arith}
 use Rattle.std.proofs.lemmas.List.{length-take}
 use Rattle.dump_io.specs.Laws.Puts.{HasPut-more, Puts-all, Puts-broken}
 use Rattle.stream_commands.specs.Weights.{part_line}

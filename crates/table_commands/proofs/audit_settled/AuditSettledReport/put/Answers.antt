@@ -1,12 +1,10 @@
 use Rattle.std.proofs.Common.{length, All, sym, ◌∙◌, ap, subst}
 use Rattle.dump_io.specs.Laws.Puts.{Puts-as}
-use Rattle.dump_audit.specs.Findings.{findings}
 use Rattle.dump_audit.specs.Fitting.{Fits}
 use Rattle.dump_audit.specs.Flight.{in_flight, settled}
 use Rattle.dump_questions.specs.Laws.Reading.{Tells-stopped}
 use Rattle.dump_questions.specs.Tasks.{status_of}
 use Rattle.table_commands.specs.Findings.{settled_lines}
-use Rattle.table_commands.specs.Inner.Loads.{loaded_audit}
 use Rattle.table_commands.proofs.audit_settled.AuditSettledReport.put.Goals as goal
 
 pub put_settled-requires-clause-fits : goal.put_settled-requires-clause-fits

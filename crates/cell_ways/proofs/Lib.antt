@@ -1,0 +1,7 @@
+pub mod Deepening
+pub mod Giving
+pub mod Lawful
+pub mod Least
+pub mod Noting
+pub mod Rounding
+pub mod Walking

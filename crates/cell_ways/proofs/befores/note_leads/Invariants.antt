@@ -1,0 +1,12 @@
+use Rattle.std.proofs.Common.{◌&&◌, take}
+use Rattle.std.specs.List.{list_any}
+use Rattle.cell_graphs.specs.Graphs.{places_at}
+use Rattle.cell_graphs.specs.Rounds.{is_to}
+use Rattle.cell_ways.specs.Inner.Search.{is_before, Gives}
+use Rattle.cell_ways.proofs.befores.note_leads.Given as goal
+
+-- the cells to which the first places lead are noted
+abbrev pub invariant-loop-place : goal.invariant-loop-place
+invariant-loop-place g l =
+    Gives l.initial.befores l.befores l.cell
+    (λ n. is_before l.depths l.cell n && list_any (is_to n) (take l.place (places_at (g.G.CellGraph.graph l.graph) l.cell)))

@@ -1,0 +1,4 @@
+pub mod Depths
+pub mod Inner
+pub mod Laws
+pub mod Ways

@@ -1,0 +1,3 @@
+pub mod KeptFacts
+pub mod StepFacts
+pub mod WrittenFacts

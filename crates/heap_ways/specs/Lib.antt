@@ -1,0 +1,5 @@
+pub mod Inner
+pub mod Laws
+pub mod Shown
+pub mod Steps
+pub mod Ways
