@@ -106,7 +106,7 @@ fn load_over<D: Dumps>(
     Ok(HeapPart { heap, previews })
 }
 
-// The same of the heap of a process, of which only its lines are known meanwhile.
+// Loads as much of the heap of a process as its shown terms need; only its lines are known meanwhile.
 // An address that it lacks is refused, if one is asked for.
 fn load_terms<D: Dumps>(
     at: &Opened<'_>,
