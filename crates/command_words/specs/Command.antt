@@ -66,7 +66,7 @@ pub data Ask : Type 0 where
   audit : ℕ → Bool → Ask
   -- the findings of an audit as one JSON text
   audit_json : ℕ → Bool → Ask
-  -- such an audit without the findings that are in flight
+  -- the findings of an audit but those that are in flight
   audit_settled : ℕ → Bool → Ask
 
 -- a command

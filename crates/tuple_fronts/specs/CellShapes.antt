@@ -12,6 +12,6 @@ inner_shapes dump index pid numbers = map (inner_shape (cells_for dump index pid
 abbrev pub cell_shapes_with : Bool → List ℕ → Contents → List ℕ → List ℕ → List (List ℕ)
 cell_shapes_with pids dump index pid numbers = map (cell_shape_with pids (cells_for dump index pid)) numbers
 
--- the same where no pid is shown
+-- the shapes of messages that refer to these cells of the heap of the process with this pid, with no pid shown
 abbrev pub cell_shapes : List ℕ → Contents → List ℕ → List ℕ → List (List ℕ)
 cell_shapes dump index pid numbers = cell_shapes_with false dump index pid numbers

@@ -14,15 +14,15 @@ listed (Some (Tuple elements)) = elements
 listed (Some (Cons head tail)) = head ∷ tail ∷ []
 listed form = []
 
--- the first of them, at most this many
+-- the first elements of a cell with a form, at most this many
 abbrev pub form_first : ℕ → Option HeapForm → List Element
 form_first most form = take most (listed form)
 
--- those of the cell with a number
+-- the first elements of the cell with a number, at most this many
 abbrev pub first_of : ℕ → List Cell → ℕ → List Element
 first_of most cells number = form_first most (form_at cells number)
 
--- at most 8 of them
+-- the first elements of a cell with a form, at most 8
 abbrev pub form_front : Option HeapForm → List Element
 form_front form = form_first 8 form
 

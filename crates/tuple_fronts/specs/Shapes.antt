@@ -67,7 +67,7 @@ plain_shape (Pid pid) = codes "pid()"
 plain_shape (Port port) = codes "port()"
 plain_shape (Ref address) = codes "missing()"
 
--- the same, with a pid shown or not
+-- the shape of an element that leads to no cell, with a pid shown or not
 abbrev pub plain_with : Bool → Element → List ℕ
 plain_with pids e = or_pid pids (plain_shape e) e
 
@@ -93,18 +93,23 @@ cell_shape_with pids cells n = subject_with pids cells (form_at cells n)
 
 -- ---- where no pid is shown
 
+-- the texts of the elements of a tuple inside a message, with no pid shown
 abbrev pub tag_texts : List Element → List (List ℕ)
 tag_texts elements = tags_with false elements
 
+-- the shape of a cell inside a message, with no pid shown
 abbrev pub form_shape : Option form.HeapForm → List ℕ
 form_shape found = form_with false found
 
+-- the shape of an element, with no pid shown
 abbrev pub element_shape : List Cell → Element → List ℕ
 element_shape cells e = element_with false cells e
 
+-- the shape of the cell to which a message refers, by its form
 abbrev pub subject_shape : List Cell → Option form.HeapForm → List ℕ
 subject_shape cells found = subject_with false cells found
 
+-- the shape of a term as that of a message
 abbrev pub term_shape : List Cell → Element → List ℕ
 term_shape cells e = term_with false cells e
 
@@ -112,5 +117,6 @@ term_shape cells e = term_with false cells e
 abbrev pub inner_shape : List Cell → ℕ → List ℕ
 inner_shape cells n = form_shape (form_at cells n)
 
+-- the shape of a message that refers to the cell with a number
 abbrev pub cell_shape : List Cell → ℕ → List ℕ
 cell_shape cells n = cell_shape_with false cells n

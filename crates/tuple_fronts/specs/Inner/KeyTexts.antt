@@ -14,7 +14,7 @@ abbrev pub key_cells : KeyPlace → List ℕ
 key_cells (place.At cell i) = cell ∷ []
 key_cells key = []
 
--- those of several keys
+-- the cells in which several keys stand
 abbrev pub all_key_cells : List KeyPlace → List ℕ
 all_key_cells keys = flat_map key_cells keys
 
@@ -27,7 +27,7 @@ abbrev pub key_tuples : SkeletonMap → KeyPlace → List ℕ
 key_tuples s (place.At cell i) = lead_tuple s (lead_at s cell i)
 key_tuples s key = []
 
--- those of several keys
+-- the tuples to which several keys refer
 abbrev pub all_key_tuples : SkeletonMap → List KeyPlace → List ℕ
 all_key_tuples s keys = flat_map (key_tuples s) keys
 

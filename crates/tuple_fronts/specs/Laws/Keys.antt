@@ -41,11 +41,13 @@ module _ (heap : HeapMap) (lines : List ℕ) where
   abbrev cells : List Cell
   cells = heap.cells
 
+  -- what leads where in the heap
   abbrev s : SkeletonMap
   s = skeleton_of heap lines
 
   -- ---- an element of a tuple of keys
 
+  -- the place of an element with a number in the keys, if it is there
   abbrev element_place : ℕ → ℕ → Bool → KeyPlace
   element_place k i is = if is then place.At k i else place.Unknown
 
@@ -98,6 +100,7 @@ module _ (heap : HeapMap) (lines : List ℕ) where
   label-by (Some (Node children)) p places = pair-is p.part
   label-by (Some form) p places = refl
 
+  -- the shape at the place of a part's key is the label of the part
   pub label-is : (p : PartPlace) → place_shape cells (key_place s p) ≡ key_label cells p
   label-is p = ap (λ kind. place_shape cells (key_by kind s p)) (kind-in cells p.cell) ∙ label-by (form_at cells p.cell) p (places-of cells p.cell)
 
