@@ -246,6 +246,18 @@ static void states(FILE *f, long count) {
     for (long i = 0; i < count; i++) fprintf(f, "=proc:<0.%ld.0>\nState: %0100d%08ld\n", i + 1, 0, plain ? 0 : i);
 }
 
+// Processes each of which stands at a place of its own; ordinary ones stand at one place. What it was spawned as
+// differs behind 200 bytes that are alike.
+static void places(FILE *f, long count) {
+    for (long i = 0; i < count; i++)
+        fprintf(f, "=proc:<0.%ld.0>\nSpawned as: %0200d%08ld\nCurrent call: a:b/%08ld\n", i + 1, 0, plain ? 0 : i, plain ? 0 : i);
+}
+
+// Ports each of which is of its own kind; ordinary ones are of one.
+static void port_kinds(FILE *f, long count) {
+    for (long i = 0; i < count; i++) fprintf(f, "=port:#Port<0.%ld>\nPort controls linked-in driver: %0200d%08ld\n", i + 1, 0, plain ? 0 : i);
+}
+
 static void numbers(FILE *f, long count) {
     put_heap(f);
     for (long i = 0; i < count; i++) fprintf(f, "%012lX:Yc%lX:0:3\n", 16 * (i + 1), plain ? i + 1 : 1);
@@ -561,7 +573,7 @@ static const struct {
     {"pids", pids}, {"tags", tags}, {"mailboxes", mailboxes}, {"kinds", kinds}, {"payload", payload}, {"external", external},
     {"subs", subs}, {"address", one_address}, {"falling", falling}, {"commas", commas}, {"equals", equals}, {"roots", roots},
     {"one_pid", one_pid}, {"star", star}, {"nested", nested}, {"counts", counts}, {"quoted", quoted},
-    {"letters", letters}, {"marks", marks}, {"states", states}, {"frames", frames}, {"numbers", numbers},
+    {"letters", letters}, {"marks", marks}, {"states", states}, {"places", places}, {"port_kinds", port_kinds}, {"frames", frames}, {"numbers", numbers},
     {"inner", inner}, {"one_text", one_text}, {"texts", texts}, {"tuple", tuple}, {"flat", flat}, {"hash", hash}, {"keys", keys},
     {"slices", slices}, {"shuffled", shuffled}, {"budgets", budgets}, {"upwards", upwards}, {"chain", chain}, {"one_cell", one_cell}, {"atoms", atoms},
 };

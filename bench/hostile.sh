@@ -96,6 +96,8 @@ shape quoted 200
 shape letters 10000000
 shape marks 4000000
 shape states 200000
+shape places 200000
+shape port_kinds 200000
 shape frames 20000
 shape numbers 500000
 shape inner 200000
