@@ -74,6 +74,7 @@ try holders "$folder/dump" 20
 try triage "$folder/dump"
 try redact "$folder/dump"
 try field "$folder/dump" State
+try fields "$folder/dump" proc State
 try stacks "$folder/dump"
 "$folder/hostile" budgets "$folder/budgets" 10000 && "$folder/hostile" texts "$folder/texts" 50 || exit 1
 try peek "$folder/budgets" "<0.1.0>" 10
@@ -81,4 +82,8 @@ try peek "$folder/budgets" "<0.1.0>" mail 0 1000 15
 try weigh "$folder/budgets" "<0.1.0>"
 try weigh "$folder/texts" "<0.1.0>" 3 20
 try shapes "$folder/texts" "<0.1.0>"
+try shapes "$folder/texts" "<0.1.0>" 10 pids
+"$folder/hostile" keys "$folder/keys" 100000 && "$folder/hostile" chain "$folder/chain" 200 || exit 1
+try weigh "$folder/keys" "<0.1.0>" 3 10
+try path "$folder/chain" "<0.1.0>" 10
 exit "$failed"
