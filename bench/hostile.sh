@@ -53,7 +53,8 @@ try() {
     "FILE PID [N] [pids]") tell "$1" "$2" "<0.1.0>" 3 && tell "$1" "$2" "<0.1.0>" 3 pids ;;
     "FILE PID N ADDR") tell "$1" "$2" "<0.1.0>" 3 10 ;;
     "FILE PID [NODES] [marked]") tell "$1" "$2" "<0.1.0>" 1 ;;
-    "FILE PID ADDR"*) tell "$1" "$2" "<0.1.0>" 10 ;;
+    "FILE PID ADDR [NODES] [marked]") tell "$1" "$2" "<0.1.0>" 10 $most ;;
+    "FILE PID ADDR") tell "$1" "$2" "<0.1.0>" 10 ;;
     "FILE PID KIND"*) tell "$1" "$2" "<0.1.0>" mail 0 1000 "$nodes" ;;
     "FILE ADDR") tell "$1" "$2" 1 ;;
     "FILE LIMIT [full]") tell "$1" "$2" 5 && tell "$1" "$2" 5 full ;;
@@ -63,9 +64,11 @@ try() {
     esac
 }
 
-# A shape, with so many of what it has: all commands of the README on it. Of some roots of a process so many nodes are shown.
+# A shape, with so many of what it has: all commands of the README on it. Of some roots of a process so many nodes are shown, and
+# of a cell as many as a command shows unasked, or so many: a text that a thousand of them refer to is printed a thousand times.
 shape() {
     nodes=${3:-1}
+    most=$4
     "$folder/hostile" "$1" "$folder/once" "$2" || exit 1
     "$folder/hostile" plain "$1" "$folder/plain" "$2" || exit 1
     "$folder/hostile" "$1" "$folder/twice" $((2 * $2)) || exit 1
@@ -106,7 +109,7 @@ shape texts 20000
 shape tuple 1000000
 shape flat 1000000
 shape hash 1000000
-shape keys 20000000
+shape keys 20000000 1 1
 shape slices 400000
 shape shuffled 2000000
 shape budgets 1000000 1500
