@@ -1,5 +1,4 @@
 pub mod FirstFacts
-pub mod KeepingFacts
 pub mod OrderFacts
 pub mod RankFacts
 pub mod ResolvingFacts

@@ -1,5 +1,5 @@
 -- Resolving references in place.
-use Rattle.std.proofs.Common.{◌≡◌, ℕ, zero, suc, [], ◌∷◌, ◌+◌, ◌<◌, ◌≤◌, ◌⊎◌, ⊎_elim, inl, inr, List, ◌++◌, length, get_or, set, map, Option, None, Some, refl, sym, ◌∙◌, ap, subst, arith, below_more, ◌^◌}
+use Rattle.std.proofs.Common.{◌≡◌, ℕ, zero, suc, [], ◌∷◌, ◌+◌, ◌<◌, ◌≤◌, ◌⊎◌, ⊎_elim, inl, inr, List, ◌++◌, length, get_or, set, map, Option, None, Some, refl, sym, ◌∙◌, ap, subst, arith, below_more}
 use Rattle.std.specs.Prelude.{slice_get, All, Contains}
 use Rattle.std.specs.Option.{option_map_or}
 use Rattle.std.specs.List.Sorted.{IsPermutation}

@@ -1,4 +1,3 @@
-pub mod Keeping
 pub mod Places
 pub mod Ranks
 pub mod References

@@ -1,8 +1,7 @@
 -- Numbers in the order of their addresses. What has an address has a number, its place in a list of addresses.
-use Rattle.std.specs.Prelude.{true, ◌≡◌, ℕ, ◌+◌, ◌*◌, ◌<◌, ◌==◌, Bool, not, List, length, map, take, slice_index_or, Option, All, Contains, position, ◌^◌}
+use Rattle.std.specs.Prelude.{true, ◌≡◌, ℕ, ◌+◌, ◌*◌, ◌<◌, ◌==◌, Bool, not, List, length, take, slice_index_or, Option, All, Contains, position, ◌^◌}
 use Rattle.std.specs.List.{list_any}
 use Rattle.std.specs.List.Sorted.{IsNonDecreasingBy}
-use Rattle.cell_records.specs.declared.cells.CellRecord.{CellRecord}
 
 -- an address and a number as one number, which orders pairs
 -- by address, and those with the same address by number
@@ -64,7 +63,3 @@ IsNumberIn pairs address found = (addresses : List ℕ) → AreRanked addresses 
 -- of whichever addresses these are the pairs, each number comes before all others with its address
 abbrev pub AreOfFirsts : List (ℕ × ℕ) → Type 0
 AreOfFirsts pairs = (addresses : List ℕ) → AreRanked addresses pairs → AreAllFirst addresses
-
--- the addresses of records
-abbrev pub addresses_of : List CellRecord → List ℕ
-addresses_of records = map (λ r. r.address) records

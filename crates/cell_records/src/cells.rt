@@ -1,8 +1,6 @@
-// Cells by their numbers, and what of each is stored.
+// Cells by their numbers, their kinds, and what of their elements is stored.
 ghost use Rattle.std.specs.Prelude.{◌≡◌};
 ghost use Rattle.cell_records.specs.Numbers.{number};
-
-use crate::located::Located;
 
 /// A cell of a heap, by its number.
 #[derive(Clone, Copy)]
@@ -71,27 +69,4 @@ pub enum Slot {
     Cell(CellIx),
     /// The element refers to this address, which no cell has.
     Gone(u64),
-}
-
-/// A cell as it is stored.
-#[derive(Clone, Copy)]
-pub struct CellRecord {
-    /// The address.
-    pub address: u64,
-    /// How many bytes of the heap's texts stand before the text of the cell's form.
-    pub at: u32,
-    /// How many bytes that text has.
-    pub len: u32,
-    /// The number of the first slot. The slots end where those of the next cell begin.
-    pub first: u32,
-    /// The kind of the form. If the text spells none, there is no kind.
-    pub kind: Option<Kind>,
-}
-
-impl Located for CellRecord {
-    ghost address = { λ r. r.address };
-
-    fn address(&self) -> u64 {
-        self.address
-    }
 }

@@ -1,10 +1,11 @@
 // Resolving references to the cells that they lead to.
 ghost use Rattle.std.specs.Prelude.{◌≡◌, ◌<◌, ◌++◌, length, slice_index_or, map, IfOk, OnOk, ◌^◌, []};
-ghost use Rattle.cell_records.specs.Order.{addresses_of, AreAllFirst, AreRanked, IsRanking};
+ghost use Rattle.cell_records.specs.Order.{AreAllFirst, AreRanked, IsRanking};
 ghost use Rattle.cell_records.specs.Resolving.{settled, AreSettled};
 ghost use Rattle.cell_records.specs.Inner.References.{reference_of, found_at, AreReferences, IsHalfSettled};
 
-use crate::cells::{CellIx, CellRecord, Slot};
+use crate::cells::{CellIx, Slot};
+use crate::located::Located;
 use crate::near::Near;
 use crate::ranks::Ranks;
 use crate::search::Search;
@@ -109,10 +110,10 @@ fn resolve_parts(
 }
 
 // The slot with its reference resolved, if that is easily told.
-fn settled_near(slot: Slot, ranks: &Ranks, cells: &[CellRecord], near: &mut Near) -> Slot
-    requires ranked { AreRanked (addresses_of cells.now) ranks.now }
-    requires distinct { AreAllFirst (addresses_of cells.now) }
-    ensures { IsHalfSettled (addresses_of cells.now) slot result }
+fn settled_near<T: Located>(slot: Slot, ranks: &Ranks, cells: &[T], near: &mut Near) -> Slot
+    requires ranked { AreRanked (map T.address cells.now) ranks.now }
+    requires distinct { AreAllFirst (map T.address cells.now) }
+    ensures { IsHalfSettled (map T.address cells.now) slot result }
 {
     let Slot::Gone(address) = slot else {
         return slot;
@@ -124,12 +125,12 @@ fn settled_near(slot: Slot, ranks: &Ranks, cells: &[CellRecord], near: &mut Near
 }
 
 // Resolves the references that are easily told.
-fn resolve_near(slots: &mut [Slot], ranks: &Ranks, cells: &[CellRecord])
-    requires ranked { AreRanked (addresses_of cells.now) ranks.now }
-    requires distinct { AreAllFirst (addresses_of cells.now) }
+fn resolve_near<T: Located>(slots: &mut [Slot], ranks: &Ranks, cells: &[T])
+    requires ranked { AreRanked (map T.address cells.now) ranks.now }
+    requires distinct { AreAllFirst (map T.address cells.now) }
     ensures count { length slots.new ≡ length slots.old }
-    ensures half { map (settled (addresses_of cells.now)) slots.new
-        ≡ map (settled (addresses_of cells.now)) slots.old }
+    ensures half { map (settled (map T.address cells.now)) slots.new
+        ≡ map (settled (map T.address cells.now)) slots.old }
 {
     let mut near = Near::new();
     for i in 0..slots.len() {
@@ -139,16 +140,16 @@ fn resolve_near(slots: &mut [Slot], ranks: &Ranks, cells: &[CellRecord])
 
 // Makes each reference to the address of a cell that cell, if there is memory: first
 // those that are easily told, then the others, whose addresses are sorted.
-fn resolve(
+fn resolve<T: Located>(
     alloc: Global,
     slots: &mut [Slot],
     ranks: &Ranks,
-    cells: &[CellRecord],
+    cells: &[T],
 ) -> Result<(), AllocError>
     requires few { length slots.old < 2 ^ 32 }
-    requires ranked { AreRanked (addresses_of cells.now) ranks.now }
-    requires distinct { AreAllFirst (addresses_of cells.now) }
-    ensures { OnOk result (slots.new ≡ map (settled (addresses_of cells.now)) slots.old) }
+    requires ranked { AreRanked (map T.address cells.now) ranks.now }
+    requires distinct { AreAllFirst (map T.address cells.now) }
+    ensures { OnOk result (slots.new ≡ map (settled (map T.address cells.now)) slots.old) }
 {
     resolve_near(slots, ranks, cells);
     resolve_parts(alloc, slots, ranks, 2)
@@ -156,16 +157,16 @@ fn resolve(
 
 /// The slots, with each reference to the address of a cell resolved to that cell, if there is
 /// memory. The pairs are the addresses of the cells with their numbers, sorted.
-pub(crate) fn resolved(
+pub fn resolved<T: Located>(
     alloc: Global,
     mut slots: Vec<Slot>,
     ranks: &Ranks,
-    cells: &[CellRecord],
+    cells: &[T],
 ) -> Result<Vec<Slot>, AllocError>
     requires few { length slots.items < 2 ^ 32 }
-    requires ranked { AreRanked (addresses_of cells.now) ranks.now }
-    requires distinct { AreAllFirst (addresses_of cells.now) }
-    ensures { IfOk result (λ new. new.items ≡ map (settled (addresses_of cells.now)) slots.items) }
+    requires ranked { AreRanked (map T.address cells.now) ranks.now }
+    requires distinct { AreAllFirst (map T.address cells.now) }
+    ensures { IfOk result (λ new. new.items ≡ map (settled (map T.address cells.now)) slots.items) }
 {
     resolve(alloc, &mut slots, ranks, cells)?;
     Ok(slots)

@@ -3,7 +3,6 @@ ghost use Rattle.std.specs.Prelude.{◌≡◌, ℕ, ◌<◌, ◌-◌, ◌^◌, [
 ghost use Rattle.cell_graphs.specs.Frontiers.{is_on};
 ghost use Rattle.cell_graphs.specs.Graphs.{LeadsWithin};
 ghost use Rattle.cell_graphs.specs.Rounds.{is_to, leads_to};
-ghost use Rattle.cell_ways.specs.Depths.{depth_of};
 ghost use Rattle.cell_ways.specs.Ways.{at_cell};
 ghost use Rattle.cell_ways.specs.Inner.Search.{is_led_by, AreDepths, Finds};
 

@@ -1,40 +1,29 @@
--- One more heap line.
-use Rattle.std.proofs.Common.{◌≡◌, ℕ, suc, ◌+◌, ◌-◌, ◌<◌, ◌≤◌, List, [], ◌∷◌, ◌++◌, length, take, drop, map, Option, None, Some, refl, sym, ◌∙◌, ap, subst, arith, length-append, append_assoc, inl, inr}
-use Rattle.std.specs.Prelude.{codes, ◌⊎◌, slice_range, All}
+-- Gathering heap lines.
+use Rattle.std.proofs.Common.{◌≡◌, ℕ, suc, ◌+◌, ◌-◌, ◌<◌, ◌≤◌, List, [], ◌∷◌, ◌++◌, length, take, drop, Option, None, Some, refl, sym, ◌∙◌, ap, subst, arith, length-append, append_assoc, inl, inr}
+use Rattle.std.specs.Prelude.{codes, ◌⊎◌, slice_range}
 use Rattle.std.specs.Option.{option_map}
 use Rattle.std.specs.List.{filter_map, cons_option}
 use Rattle.std.proofs.Math.Seq.{drop-append_seam}
 use Rattle.field_lines.specs.Lines.{TextLine, IsPart as IsLinePart}
-use Rattle.std.proofs.lemmas.List.{drop-drop, drop-take, length-take, length-map, map-append, take-take, append-nil}
-use Rattle.std.proofs.lemmas.List.Sums.{sum_by-cons}
-use Rattle.std.proofs.lemmas.Option.{slice_get-map, slice_get_within, get_or_from_slice_get}
+use Rattle.std.proofs.lemmas.List.{append-nil, drop-drop, drop-take, length-map, map-append, take-take}
+use Rattle.std.proofs.lemmas.List.Sums.{sum_by-cons, sum_by-append}
 use Rattle.binary_payloads.specs.declared.enc.Enc.{Enc}
 use Rattle.term_forms.specs.Elements.{Element, IsElem, Nil, Small, Atom, Pid, Port, Ref}
 use Rattle.term_forms.specs.Forms as forms
 use Rattle.term_forms.specs.Forms.{HeapForm, IsForm}
 use Rattle.term_forms.specs.Joined.{IsJoined}
-use Rattle.term_forms.specs.Places.{Placed, elements_of}
-use Rattle.term_forms.specs.Reading.{whole_of}
+use Rattle.term_forms.specs.Places.{elements_of}
 use Rattle.term_forms.specs.ReadingForms.{form_of}
 use Rattle.term_forms.specs.Words.{comma, colon, bar, IsLed, led_of}
-use Rattle.cell_records.specs.declared.arena.Arena.{Arena}
-use Rattle.cell_records.specs.declared.cells.CellRecord.{CellRecord}
-use Rattle.cell_records.specs.declared.cells.Kind.{Kind}
-use Rattle.cell_records.specs.declared.cells.Slot.{Slot}
-use Rattle.cell_records.specs.declared.cells.Span.{Span}
 use Rattle.heap_cells.specs.declared.gathering.Gathering.{Gathering}
-use Rattle.heap_cells.specs.Cells.{Cell, spelled_cell, cell_of, line_cells, elements_in, kind_of, cell_weight, weight_of}
-use Rattle.heap_cells.specs.Targets.{target, slot_target}
-use Rattle.heap_cells.specs.Inner.Gathering.{slot_with, slot_for, new_record, IsLineAt, IsBodyAt, IsGathered, Leads, AreAll}
-use Rattle.heap_cells.specs.declared.found.Read.{Read}
-use Rattle.heap_cells.specs.Inner.Found.{read_of, IsReadInto}
-use Rattle.heap_cells.specs.Inner.Parts.{IsPart}
-use Rattle.heap_cells.specs.Inner.Records.{cell_in, cells_in, AreSlots, IsSpan, Spells, AllSpell, element_at}
-use Rattle.heap_cells.specs.Inner.Spellings.{IsSpelling}
-use Rattle.heap_cells.proofs.PushingFacts.{AreSlots-push}
 use Rattle.heap_cells.specs.declared.texts.Texts.{Texts}
+use Rattle.heap_cells.specs.Cells.{Cell, spelled_cell, cell_of, line_cells, elements_in, cell_weight}
+use Rattle.heap_cells.specs.Inner.Gathering.{AllStandIn, AreAll, Gathers, HoldsCells, IsBodyAt, IsLineAt, IsNothing, StandsIn}
 use Rattle.heap_cells.specs.Inner.Texts.{text_of, seam_of}
-use Rattle.heap_cells.proofs.RecordFacts.{has-at}
+use Rattle.heap_graph.specs.declared.held.Held.{Held}
+use Rattle.heap_graph.specs.Held.{HeapLine, heap_line_with, Gains}
+use Rattle.heap_graph.specs.Laws.Elements.{alike-slots, appended-alike}
+use Rattle.heap_graph.specs.Laws.Gains.{IsHeld-then, length-parts}
 
 -- ---- a text that spells a form has no fewer bytes than the form has elements
 
@@ -97,23 +86,9 @@ spelled-few enc text law = of (form_of enc text) refl
     of None e = omega arith
     of (Some f) e = form-few enc text f (law f e)
 
--- ---- the slots of its elements
+-- ---- parts of a text
 
-with-target : (span : Span) (e : Element) → slot_target (slot_with span e) ≡ target [] e
-with-target span (Ref address) = refl
-with-target span e = refl
-
-for-targets : (from : ℕ) (ss : List Placed) → map slot_target (map (slot_for from) ss) ≡ map (target []) (map (λ (s : Placed). s.element) ss)
-for-targets from [] = refl
-for-targets from (s ∷ ss) =
-    ap (λ t. t ∷ map slot_target (map (slot_for from) ss)) (with-target (record { at = from + s.at; len = s.len }) s.element)
-    ∙ ap (λ ts. target [] s.element ∷ ts) (for-targets from ss)
-
-with-spells : (text : List ℕ) (seam : ℕ) (span : Span) (e : Element) → IsSpan text seam span → element_at text span ≡ Some e → Spells text seam (slot_with span e) e
-with-spells text seam span (Ref address) part is = tt
-with-spells text seam span e part is = (part, is)
-
-slice-slice : (text : List ℕ) (base n from upto : ℕ) → from ≤ upto → upto ≤ n
+pub slice-slice : (text : List ℕ) (base n from upto : ℕ) → from ≤ upto → upto ≤ n
     → slice_range (slice_range text base (base + n)) from upto ≡ slice_range text (base + from) (base + upto)
 slice-slice text base n from upto ordered within =
     let whole : base + n - base ≡ from + (n - from) = omega arith in
@@ -123,131 +98,6 @@ slice-slice text base n from upto ordered within =
     ∙ take-take (upto - from) (n - from) (drop from (drop base text)) (omega arith)
     ∙ ap (take (upto - from)) (drop-drop from base text)
     ∙ ap (λ k. take k (drop (base + from) text)) (sym size)
-
--- what is spelled in a part of the text is spelled in the text
-for-spells : (text : List ℕ) (seam from upto : ℕ) (s : Placed) → IsPart seam (length text) from upto → IsSpelling (slice_range text from upto) s
-    → Spells text seam (slot_for from s) s.element
-for-spells text seam from upto s part is =
-    let size : length (slice_range text from upto) ≤ upto - from = omega (arith, length-take (upto - from) (drop from text)) in
-    let fits : s.at + s.len ≤ upto - from = let within = is.within in omega (arith, size, within) in
-    let ordered = part.ordered in
-    let within = part.within in
-    let whole : upto ≡ from + (upto - from) = omega (arith, ordered) in
-    let end : from + s.at + s.len ≡ from + (s.at + s.len) = omega arith in
-    let same : slice_range text (from + s.at) (from + s.at + s.len) ≡ slice_range (slice_range text from upto) s.at (s.at + s.len) =
-    ap (slice_range text (from + s.at)) end
-    ∙ sym (slice-slice text from (upto - from) s.at (s.at + s.len) (omega arith) fits)
-    ∙ ap (λ k. slice_range (slice_range text from k) s.at (s.at + s.len)) (sym whole) in
-    with-spells text seam (record { at = from + s.at; len = s.len }) s.element
-    (record {
-      ordered = omega arith;
-      within = omega (arith, fits, ordered, within);
-      one_body = λ before. let one = part.one_body (omega (arith, before)) in omega (arith, fits, ordered, one);
-    })
-    (ap whole_of same ∙ is.spells)
-
-all-spell : (text : List ℕ) (seam from upto : ℕ) (ps : List Placed) → IsPart seam (length text) from upto → All (IsSpelling (slice_range text from upto)) ps
-    → AllSpell text seam (map (slot_for from) ps) (map (λ (p : Placed). p.element) ps)
-all-spell text seam from upto ps part spelled k s e slot_is element_is =
-    let there = has-at ps k (omega (arith, slice_get_within (map (slot_for from) ps) k s slot_is, length-map ps (slot_for from))) in
-    let p = there.0 in
-    let slot_same : Some (slot_for from p) ≡ Some s = sym (slice_get-map (slot_for from) ps k ∙ ap (option_map (slot_for from)) there.1) ∙ slot_is in
-    let element_same : Some p.element ≡ Some e =
-    sym (slice_get-map (λ (p : Placed). p.element) ps k ∙ ap (option_map (λ (p : Placed). p.element)) there.1) ∙ element_is in
-    let is : IsSpelling (slice_range text from upto) p =
-    subst (IsSpelling (slice_range text from upto)) (get_or_from_slice_get ps k p p there.1) (spelled k p (slice_get_within ps k p there.1)) in
-    let s_is : slot_for from p ≡ s = cc in
-    let e_is : p.element ≡ e = cc in
-    subst (λ (x : Slot). Spells text seam x e) s_is (subst (Spells text seam (slot_for from p)) e_is (for-spells text seam from upto p part is))
-
--- ---- one more cell
-
--- the elements of a line's form
-pub record IsFound (text : List ℕ) (seam : ℕ) (enc : Enc) (from upto : ℕ) (ps : List Placed) : Type 0 where
-  pub part : IsPart seam (length text) from upto
-  pub elements : map (λ p. p.element) ps ≡ elements_in (form_of enc (slice_range text from upto))
-  pub places : All (IsSpelling (slice_range text from upto)) ps
-
-pub slots-more : (text : List ℕ) (seam : ℕ) (enc : Enc) (address from upto : ℕ) (ps : List Placed) (old new : Arena) → IsFound text seam enc from upto ps
-    → AreSlots text seam enc [] old.cells.items old.slots.items
-    → new.cells.items ≡ old.cells.items ++ new_record address from upto (length old.slots.items) (option_map kind_of (form_of enc (slice_range text from upto))) ∷ []
-    → new.slots.items ≡ old.slots.items ++ map (slot_for from) ps → AreSlots text seam enc [] new.cells.items new.slots.items
-slots-more text seam enc address from upto ps old new is are cells slots =
-    let ordered = is.part.ordered in
-    let end : upto ≡ from + (upto - from) = omega (arith, ordered) in
-    let form = ap (λ n. form_of enc (slice_range text from n)) end in
-    let es = is.elements ∙ ap elements_in form in
-    rw (cells, slots) (AreSlots-push text seam enc [] old.cells.items old.slots.items (map (slot_for from) ps)
-    (new_record address from upto (length old.slots.items) (option_map kind_of (form_of enc (slice_range text from upto)))) are
-    (record { first = refl; part = subst (IsPart seam (length text) from) end is.part; kind = ap (option_map kind_of) form })
-    (for-targets from ps ∙ ap (map (target [])) es) (subst (AllSpell text seam (map (slot_for from) ps)) es (all-spell text seam from upto ps is.part is.places)))
-
--- the cell of its record
-pub cells-more : (text : List ℕ) (enc : Enc) (address from upto first : ℕ) (kind : Option Kind) (old new : Arena) → from ≤ upto
-    → new.cells.items ≡ old.cells.items ++ new_record address from upto first kind ∷ []
-    → cells_in text enc new.cells.items ≡ cells_in text enc old.cells.items ++ spelled_cell enc (address, slice_range text from upto) ∷ []
-cells-more text enc address from upto first kind old new ordered cells =
-    let end : from + (upto - from) ≡ upto = omega (arith, ordered) in
-    ap (cells_in text enc) cells
-    ∙ map-append (cell_in text enc) old.cells.items (new_record address from upto first kind ∷ [])
-    ∙ ap (λ n. cells_in text enc old.cells.items ++ spelled_cell enc (address, slice_range text from n) ∷ []) end
-
-leads-kept : (text : List ℕ) (enc : Enc) (old new : Gathering) (cell : Cell) (rest all : List Cell) → new.weight ≡ old.weight + cell_weight cell → new.dense ≡ old.dense
-    → cells_in text enc new.arena.cells.items ≡ cells_in text enc old.arena.cells.items ++ cell ∷ [] → Leads text enc old (cell ∷ rest) all → Leads text enc new rest all
-leads-kept text enc old new cell rest all weight dense cells leads = record {
-  weight = omega (arith, weight, leads.weight, sum_by-cons cell_weight cell rest);
-  kept = λ few. ap (λ l. l ++ rest) cells ∙ append_assoc (cells_in text enc old.arena.cells.items) (cell ∷ []) rest ∙ leads.kept (omega (arith, few, weight, dense));
-}
-
--- what is left of a line whose form was read
-pub record IsPushed (text : List ℕ) (enc : Enc) (address from upto most : ℕ) (part : List ℕ) (read : Read) (old new : Gathering) : Type 0 where
-  pub part_is : part ≡ slice_range text from upto
-  pub read_is : read ≡ read_of (form_of enc part)
-  pub into : IsReadInto part from most (Some (elements_in (form_of enc part))) old.arena.slots.items new.arena.slots.items
-  pub cells_are : new.arena.cells.items ≡ old.arena.cells.items ++ new_record address from upto (length old.arena.slots.items) read.kind ∷ []
-  pub weight_is : new.weight ≡ old.weight + (1 + read.count)
-  pub most_is : old.weight ≤ old.dense → most ≡ old.dense
-  pub room : new.weight ≤ old.dense
-
-pub gathered-more : (text : List ℕ) (seam : ℕ) (enc : Enc) (address from upto most : ℕ) (part : List ℕ) (read : Read) (old new : Gathering) → IsPart seam (length text) from upto
-    → IsPushed text enc address from upto most part read old new → IsGathered text seam enc old → IsGathered text seam enc new
-gathered-more text seam enc address from upto most part read old new within is gathered =
-    let ps = is.into.read in
-    let few = gathered.few in
-    let count : length ps ≡ read.count = sym (length-map ps (λ (p : Placed). p.element)) ∙ ap length is.into.elements ∙ sym (ap (λ (r : Read). r.count) is.read_is) in
-    let all : most ≡ old.dense = is.most_is (omega (arith, is.room, is.weight_is)) in
-    let slots : new.arena.slots.items ≡ old.arena.slots.items ++ map (slot_for from) ps =
-    is.into.pushed.new_is ∙ ap (λ l. old.arena.slots.items ++ l) (is.into.pushed.added_is (omega (arith, count, few, all, is.room, is.weight_is))) in
-    let kind : read.kind ≡ option_map kind_of (form_of enc (slice_range text from upto)) =
-    ap (λ (r : Read). r.kind) is.read_is ∙ ap (λ l. option_map kind_of (form_of enc l)) is.part_is in
-    record {
-      slots_are = slots-more text seam enc address from upto ps old.arena new.arena
-          (record { part = within; elements = is.into.elements ∙ ap (λ l. elements_in (form_of enc l)) is.part_is; places = subst (λ l. All (IsSpelling l) ps) is.part_is is.into.places })
-          gathered.slots_are (is.cells_are ∙ ap (λ k. old.arena.cells.items ++ new_record address from upto (length old.arena.slots.items) k ∷ []) kind) slots;
-      few = omega (
-        arith,
-        few,
-        count,
-        is.weight_is,
-        ap length is.cells_are,
-        ap length slots,
-        length-map ps (slot_for from),
-        length-append {A = CellRecord},
-        length-append {A = Slot},
-      );
-    }
-
-pub leads-more : (text : List ℕ) (enc : Enc) (address from upto most : ℕ) (part : List ℕ) (read : Read) (old new : Gathering) (rest all : List Cell) → from ≤ upto
-    → IsPushed text enc address from upto most part read old new → new.dense ≡ old.dense → Leads text enc old (spelled_cell enc (address, slice_range text from upto) ∷ rest) all
-    → Leads text enc new rest all
-leads-more text enc address from upto most part read old new rest all ordered is dense leads =
-    leads-kept text enc old new (spelled_cell enc (address, slice_range text from upto)) rest all
-    (is.weight_is ∙ ap (λ n. old.weight + (1 + n)) (ap (λ (r : Read). r.count) is.read_is ∙ ap (λ l. length (elements_in (form_of enc l))) is.part_is)) dense
-    (cells-more text enc address from upto (length old.arena.slots.items) read.kind old.arena new.arena ordered is.cells_are) leads
-
--- a part has no more bytes than it spans
-pub part-few : (text : List ℕ) (from upto : ℕ) → length (slice_range text from upto) ≤ upto - from
-part-few text from upto = omega (arith, length-take (upto - from) (drop from text))
 
 -- ---- a line
 
@@ -296,32 +146,109 @@ line-at text seam base body line stands part = record {
 pub line-few : (body : List ℕ) (line : TextLine) → IsLinePart body line → length line.text ≤ length body
 line-few body line part = let within = part.within in omega (arith, within)
 
+-- ---- cells that are held
+
+pub stand-append : (text : List ℕ) (seam : ℕ) (enc : Enc) (xs ys : List HeapLine) → AllStandIn text seam enc xs → AllStandIn text seam enc ys → AllStandIn text seam enc (xs ++ ys)
+stand-append text seam enc [] ys one other = other
+stand-append text seam enc (x ∷ xs) ys one other = (one.0, stand-append text seam enc xs ys one.1 other)
+
+-- one more line is held
+pub holds-more : (texts : Texts) (old new : Held) (line : HeapLine) (front : List Cell) → Gains old new (line ∷ []) → StandsIn (text_of texts) (seam_of texts) texts.enc line → HoldsCells texts old front
+    → HoldsCells texts new (front ++ line.cell ∷ [])
+holds-more texts old new line front gains stands held = record {
+  lines = held.lines ++ line ∷ [];
+  held_is = IsHeld-then old new held.lines (line ∷ []) held.held_is gains;
+  slots = alike-slots old.elements new.elements (appended-alike old.elements new.elements gains.elements.fs gains.elements.appended) held.slots;
+  stand = stand-append (text_of texts) (seam_of texts) texts.enc held.lines (line ∷ []) held.stand (stands, tt);
+  cells_are = map-append (λ (l : HeapLine). l.cell) held.lines (line ∷ []) ∙ ap (λ l. l ++ line.cell ∷ []) held.cells_are;
+}
+
+pub Gathers-none : (texts : Texts) (g : Gathering) → Gathers texts g g []
+Gathers-none texts g = record { weight = omega arith; held = λ few front held. subst (HoldsCells texts g.held) (sym (append-nil front)) held }
+
+pub Gathers-then : (texts : Texts) (a b c : Gathering) (xs ys : List Cell) → b.dense ≡ a.dense → Gathers texts a b xs → Gathers texts b c ys → Gathers texts a c (xs ++ ys)
+Gathers-then texts a b c xs ys same one other = record {
+  weight = omega (arith, one.weight, other.weight, sum_by-append cell_weight xs ys);
+  held = λ few front held.
+      subst (HoldsCells texts c.held) (append_assoc front xs ys)
+      (other.held (omega (arith, few, same)) (front ++ xs) (one.held (omega (arith, few, other.weight)) front held));
+}
+
+-- a line that is no heap line
+pub Gathers-no-line : (texts : Texts) (g : Gathering) (line : TextLine) → led_of line.text ≡ None → Gathers texts g g (filter_map (cell_of texts.enc) (line ∷ []))
+Gathers-no-line texts g line is = subst (Gathers texts g g) (sym (ap (λ o. cons_option (option_map (spelled_cell texts.enc) o) []) is)) (Gathers-none texts g)
+
+-- a heap line
+pub Gathers-line : (texts : Texts) (old new : Gathering) (mid : Held) (line : TextLine) (base at from address elements : ℕ) (spelled : List ℕ) → IsLineAt (text_of texts) (seam_of texts) base line
+    → IsLed line.text address spelled → Some (address, spelled) ≡ led_of line.text → at ≡ base + line.at → from ≡ at + (length line.text - length spelled)
+    → Gains old.held mid (heap_line_with texts.enc at from (address, spelled) ∷ []) → elements ≡ length (elements_in (form_of texts.enc spelled)) → new.weight ≡ old.weight + (1 + elements)
+    → (new.weight ≤ old.dense → new.held ≡ mid) → Gathers texts old new (filter_map (cell_of texts.enc) (line ∷ []))
+Gathers-line texts old new mid line base at from address elements spelled line_at led is at_is from_is gains count weight held_is =
+    let text = text_of texts in
+    let one = heap_line_with texts.enc at from (address, spelled) in
+    let lens : length line.text ≡ length led.0 + suc (length spelled) = ap length led.2 ∙ length-append led.0 (colon ∷ spelled) in
+    let end : from + length spelled ≡ base + line.at + length line.text = omega (arith, at_is, from_is, lens) in
+    let begin : base + line.at + length line.text - length spelled ≡ from = omega (arith, at_is, from_is, lens) in
+    let part = line_at.part in
+    let stands : StandsIn text (seam_of texts) texts.enc one = record {
+      part = record {
+        ordered = omega arith;
+        within = omega (arith, end, part.within);
+        one_body = λ before. let whole = part.one_body (omega (arith, before, begin)) in omega (arith, end, whole);
+      };
+      stands = ap (slice_range text from) end ∙ ap (λ n. slice_range text n (base + line.at + length line.text)) (sym begin)
+          ∙ behind-colon text (base + line.at) line.text address spelled line_at.stands led;
+      form = refl;
+    } in
+    subst (Gathers texts old new) (sym (line-cells texts.enc line address spelled [] is))
+    (record {
+      weight = weight ∙ ap (λ n. old.weight + (1 + n)) count ∙ omega (arith, sum_by-cons cell_weight (spelled_cell texts.enc (address, spelled)) []);
+      held = λ few front held. subst (λ (h : Held). HoldsCells texts h (front ++ spelled_cell texts.enc (address, spelled) ∷ [])) (sym (held_is few)) (holds-more texts old.held mid one front gains stands held);
+    })
+
+-- ---- the lines of a body
+
+-- the cells of the first lines were gathered, and these lines are left
+pub record GathersFront (texts : Texts) (old new : Gathering) (cells : List Cell) (left : List TextLine) : Type 0 where
+  pub front : List Cell
+  pub cells_are : cells ≡ front ++ filter_map (cell_of texts.enc) left
+  pub gathers : Gathers texts old new front
+
+pub front-none : (texts : Texts) (g : Gathering) (lines : List TextLine) → GathersFront texts g g (filter_map (cell_of texts.enc) lines) lines
+front-none texts g lines = record { front = []; cells_are = refl; gathers = Gathers-none texts g }
+
+pub front-more : (texts : Texts) (old mid new : Gathering) (cells : List Cell) (left rest : List TextLine) (line : TextLine) → left ≡ line ∷ rest → mid.dense ≡ old.dense
+    → GathersFront texts old mid cells left → Gathers texts mid new (filter_map (cell_of texts.enc) (line ∷ [])) → GathersFront texts old new cells rest
+front-more texts old mid new cells left rest line is same so_far one = record {
+  front = so_far.front ++ filter_map (cell_of texts.enc) (line ∷ []);
+  cells_are =
+      so_far.cells_are ∙ ap (λ l. so_far.front ++ filter_map (cell_of texts.enc) l) is
+      ∙ ap (λ l. so_far.front ++ l) (split (cell_of texts.enc line) (filter_map (cell_of texts.enc) rest))
+      ∙ sym (append_assoc so_far.front (filter_map (cell_of texts.enc) (line ∷ [])) (filter_map (cell_of texts.enc) rest));
+  gathers = Gathers-then texts old mid new so_far.front (filter_map (cell_of texts.enc) (line ∷ [])) same so_far.gathers one;
+}
+  where
+    split : (o : Option Cell) (l : List Cell) → cons_option o l ≡ cons_option o [] ++ l
+    split None l = refl
+    split (Some c) l = refl
+
+pub front-all : (texts : Texts) (old new : Gathering) (cells : List Cell) → GathersFront texts old new cells [] → Gathers texts old new cells
+front-all texts old new cells so_far = subst (Gathers texts old new) (sym (so_far.cells_are ∙ append-nil so_far.front)) so_far.gathers
+
 -- ---- both bodies
 
-pub leads-begin : (text : List ℕ) (enc : Enc) (g : Gathering) (all : List Cell) → g.weight ≡ 0 → g.arena.cells.items ≡ [] → Leads text enc g all all
-leads-begin text enc g all none cells = record {
-  weight = ap (λ n. n + weight_of all) none ∙ omega arith;
-  kept = λ few. ap (λ l. cells_in text enc l ++ all) cells;
-}
-
-pub all-gathered : (texts : Texts) (first last : Gathering) (own : ℕ) → first.dense ≡ last.dense → IsGathered (text_of texts) (seam_of texts) texts.enc last
-    → Leads (text_of texts) texts.enc first (line_cells texts.enc texts.literals.items) (line_cells texts.enc texts.heap.items ++ line_cells texts.enc texts.literals.items)
-    → Leads (text_of texts) texts.enc last [] (line_cells texts.enc texts.heap.items ++ line_cells texts.enc texts.literals.items) → own ≡ length first.arena.cells.items
-    → AreAll texts last own
-all-gathered texts first last own same gathered before after own_is = record {
-  gathered = gathered;
-  weight_is = omega (arith, after.weight);
-  cells_are = λ few. sym (append-nil (cells_in (text_of texts) texts.enc last.arena.cells.items)) ∙ after.kept few;
-  own_is = λ few.
-      let heap = line_cells texts.enc texts.heap.items in
-      let literals = line_cells texts.enc texts.literals.items in
-      let kept = before.kept (omega (arith, few, before.weight, after.weight, same)) in
-      omega (
-        arith,
-        own_is,
-        ap length kept,
-        length-append (cells_in (text_of texts) texts.enc first.arena.cells.items) literals,
-        length-append heap literals,
-        length-map first.arena.cells.items (cell_in (text_of texts) texts.enc),
-      );
-}
+pub all-gathered : (texts : Texts) (g first last : Gathering) (own : ℕ) → IsNothing g → first.dense ≡ g.dense → last.dense ≡ first.dense → Gathers texts g first (line_cells texts.enc texts.heap.items)
+    → Gathers texts first last (line_cells texts.enc texts.literals.items) → own ≡ length first.held.parts.items → AreAll texts last own
+all-gathered texts g first last own none same same' one other own_is =
+    let heap = line_cells texts.enc texts.heap.items in
+    let literals = line_cells texts.enc texts.literals.items in
+    let both = Gathers-then texts g first last heap literals same one other in
+    let nothing : HoldsCells texts g.held [] = record { lines = []; held_is = none.held; slots = none.slots; stand = tt; cells_are = refl } in
+    record {
+      weight_is = omega (arith, both.weight, none.weight);
+      held = λ few. both.held (omega (arith, few, same, same')) [] nothing;
+      own_is = λ few.
+          let held = one.held (omega (arith, few, same, same', other.weight)) [] nothing in
+          own_is ∙ ap length held.held_is.parts ∙ length-parts first.held.elements 0 held.lines
+          ∙ sym (length-map held.lines (λ (l : HeapLine). l.cell)) ∙ ap length held.cells_are;
+    }

@@ -6,7 +6,10 @@ use Rattle.term_forms.specs.Elements.{Element, Nil, Small, Atom, Pid, Port, Ref,
 use Rattle.term_forms.specs.Reading.{whole_of}
 use Rattle.dump_io.specs.Letters.{letter}
 use Rattle.term_forms.specs.Words.{IsLed, led_of}
-use Rattle.heap_cells.proofs.FoundFacts.{IsRead}
+
+-- what is read of a whole text is the element that it spells
+abbrev pub IsRead : Type 0
+IsRead = (text : List ℕ) (e : Element) → (whole_of text ≡ Some e) ↔ IsElem text e
 
 -- what leads a text is read
 abbrev pub IsLedRead : Type 0

@@ -1,102 +1,48 @@
 // Gathering the heap lines of the bodies one by one.
-ghost use Rattle.std.specs.Prelude.{◌≡◌, ◌+◌, ◌^◌, ◌<◌, ◌≤◌, ◌-◌, ◌*◌, ◌∷◌, ◌++◌, [], length, slice_range, OnOk, IfOk, IfErr};
+ghost use Rattle.std.specs.Prelude.{◌≡◌, ◌+◌, ◌^◌, ◌<◌, ◌≤◌, ◌*◌, ◌∷◌, [], length, OnOk, IfOk, IfErr};
+ghost use Rattle.std.specs.List.{filter_map};
 ghost use Rattle.dump_io.specs.Limits.{usual};
 ghost use Rattle.field_lines.specs.Shown.{shown_line};
-ghost use Rattle.heap_cells.specs.Cells.{spelled_cell, line_cells, weight};
-ghost use Rattle.heap_cells.specs.Inner.Gathering.{new_record, IsLineAt, IsBodyAt, IsNothing, AreAll, IsGatheredIn, Gathers, GathersLine};
+ghost use Rattle.heap_cells.specs.Cells.{cell_of, line_cells};
+ghost use Rattle.heap_cells.specs.Inner.Gathering.{AreAll, Gathers, HoldsTexts, IsBodyAt, IsLineAt, IsNothing};
 ghost use Rattle.heap_cells.specs.Inner.Faults.{IsOfTheTexts};
-ghost use Rattle.heap_cells.specs.Inner.Keeping.{IsSettledHeap};
-ghost use Rattle.heap_cells.specs.Inner.Parts.{IsPart};
 ghost use Rattle.heap_cells.specs.Inner.Texts.{text_of, seam_of, weight_in};
+ghost use Rattle.heap_graph.specs.Elements.{IsOfSlots};
+ghost use Rattle.heap_graph.specs.Held.{IsSmall};
 
 use crate::faults::HeapFault;
-use crate::found::push_form;
 use crate::texts::Texts;
-use cell_records::{Arena, CellRecord, Kind, Settled, settle};
 use field_lines::Line;
 use field_lines::reading::lines;
+use heap_graph::{Elements, Held, gather_cell};
 use std::alloc::{AllocError, Global};
 use term_forms::{form_is_read, heap_line};
 
-// The cells of the lines so far, with unresolved references, and how many lines and
-// elements there are so far. Once these are more than the limit, no more cells are kept.
+// What is held of the lines so far, and how many lines and elements there are so
+// far. Once these are more than the limit, nothing is held any more.
 #[derive(Drop)]
 pub(crate) struct Gathering {
-    pub arena: Arena,
+    pub held: Held,
     pub weight: u64,
     pub dense: u32,
 }
 
-// Appends the record of a cell, given where the text of its form begins and ends.
-fn push_record(
-    cells: &mut Vec<CellRecord>,
-    address: u64,
-    from: usize,
-    upto: usize,
-    first: usize,
-    kind: Option<Kind>,
-) -> Result<(), AllocError>
-    requires ordered { from ≤ upto }
-    requires within { upto < 2 ^ 32 }
-    requires few { first < 2 ^ 32 }
-    ensures { OnOk result (cells.new.items
-        ≡ cells.old.items ++ new_record address from upto first kind ∷ []) }
-{
-    cells.push(CellRecord {
-        address,
-        at: from as u32,
-        len: (upto - from) as u32,
-        first: first as u32,
-        kind,
-    })?;
-    Ok(())
-}
-
-// How many slots there may be: none are needed once there are too many lines and elements.
-fn most_slots(g: &Gathering) -> usize
-    ensures { g.now.weight ≤ g.now.dense → result ≡ g.now.dense }
-{
-    if g.weight > u64::from(g.dense) {
-        0
-    } else {
-        g.dense as usize
-    }
-}
-
-// Gathers the cell of a heap line, given the text of its form, and where that begins and ends.
-fn gather_cell(
-    texts: &Texts,
-    address: u64,
-    spelled: &[u8],
-    from: usize,
-    upto: usize,
-    g: &mut Gathering,
-) -> Result<(), AllocError>
-    requires spelled { spelled.now ≡ slice_range (text_of texts.now) from upto }
-    requires part { IsPart (seam_of texts.now) (length (text_of texts.now)) from upto }
-    requires small { length (text_of texts.now) ≤ 2 * usual.section }
-    requires limit { g.old.dense ≤ usual.dense }
-    requires room { g.old.weight + (upto - from) + 1 < 2 ^ 64 }
-    requires gathered { IsGatheredIn texts.now g.old }
+// Adds the weight of a cell that was gathered. If all together are more than the limit, nothing is held any more.
+fn add_weight(g: &mut Gathering, elements: u64)
+    requires room { g.old.weight + (1 + elements) < 2 ^ 64 }
+    requires small { IsSmall g.old.held }
     ensures limit { g.new.dense ≡ g.old.dense }
-    ensures weight { g.new.weight ≤ g.old.weight + (upto - from) + 1 }
-    ensures gathered { OnOk result (IsGatheredIn texts.now g.new) }
-    ensures leads { OnOk result (Gathers texts.now g.old g.new
-        (spelled_cell texts.now.enc (address, slice_range (text_of texts.now) from upto) ∷ [])) }
+    ensures weight { g.new.weight ≡ g.old.weight + (1 + elements) }
+    ensures small { IsSmall g.new.held }
+    ensures held { g.new.weight ≤ g.old.dense → g.new.held ≡ g.old.held }
 {
-    form_is_read(texts.enc);
-    let most = most_slots(g);
-    let first = g.arena.slots.len();
-    let read = push_form(&mut g.arena.slots, spelled, texts.enc, from, most)?;
-    g.weight += 1 + read.count;
+    g.weight += 1 + elements;
     if g.weight > u64::from(g.dense) {
-        g.arena.slots.truncate(first);
-        return Ok(());
+        g.held.clear();
     }
-    push_record(&mut g.arena.cells, address, from, upto, first, read.kind)
 }
 
-// Gathers the cell of a line, if the line is a heap line.
+// Gathers the cell of a line of a body that stands at a place of the text, if the line is a heap line.
 fn gather_line(
     texts: &Texts,
     base: usize,
@@ -104,39 +50,49 @@ fn gather_line(
     g: &mut Gathering,
 ) -> Result<(), AllocError>
     requires line { IsLineAt (text_of texts.now) (seam_of texts.now) base (shown_line line.now) }
-    requires small { length (text_of texts.now) ≤ 2 * usual.section }
-    requires limit { g.old.dense ≤ usual.dense }
+    requires size { length (text_of texts.now) ≤ 2 * usual.section }
     requires room { g.old.weight + length line.now.text.now < 2 ^ 64 }
-    requires gathered { IsGatheredIn texts.now g.old }
+    requires small { IsSmall g.old.held }
     ensures limit { g.new.dense ≡ g.old.dense }
     ensures weight { g.new.weight ≤ g.old.weight + length line.now.text.now }
-    ensures gathered { OnOk result (IsGatheredIn texts.now g.new) }
-    ensures leads { OnOk result (GathersLine texts.now g.old g.new (shown_line line.now)) }
+    ensures small { OnOk result (IsSmall g.new.held) }
+    ensures gathers { OnOk result (Gathers texts.now g.old g.new
+        (filter_map (cell_of texts.now.enc) (shown_line line.now ∷ []))) }
 {
+    form_is_read(texts.enc);
     let Some((address, spelled)) = heap_line(line.text) else {
         return Ok(());
     };
-    let upto = base + line.at + line.text.len();
-    gather_cell(texts, address, spelled, upto - spelled.len(), upto, g)
+    let at = base + line.at;
+    let from = at + (line.text.len() - spelled.len());
+    let count = gather_cell(
+        &mut g.held,
+        texts.enc,
+        address,
+        spelled,
+        at as u64,
+        from as u64,
+    )?;
+    add_weight(g, count);
+    Ok(())
 }
 
 // Gathers the cells of all lines of a body that stands at a place of the text.
-pub(crate) fn gather_lines(
+fn gather_lines(
     texts: &Texts,
     base: usize,
     body: &[u8],
     g: &mut Gathering,
 ) -> Result<(), AllocError>
     requires body { IsBodyAt (text_of texts.now) (seam_of texts.now) base body.now }
-    requires small { length (text_of texts.now) ≤ 2 * usual.section }
+    requires size { length (text_of texts.now) ≤ 2 * usual.section }
     requires few { length body.now ≤ usual.section }
-    requires limit { g.old.dense ≤ usual.dense }
     requires room { g.old.weight ≤ 2 ^ 62 }
-    requires gathered { IsGatheredIn texts.now g.old }
+    requires small { IsSmall g.old.held }
     ensures limit { g.new.dense ≡ g.old.dense }
     ensures weight { g.new.weight ≤ g.old.weight + 2 ^ 58 }
-    ensures gathered { OnOk result (IsGatheredIn texts.now g.new) }
-    ensures leads { OnOk result (Gathers texts.now g.old g.new
+    ensures small { OnOk result (IsSmall g.new.held) }
+    ensures gathers { OnOk result (Gathers texts.now g.old g.new
         (line_cells texts.now.enc body.now)) }
 {
     for line in lines(body) {
@@ -147,31 +103,36 @@ pub(crate) fn gather_lines(
 
 // Gathers the heap lines of both bodies, and returns how many
 // of the cells are those of the process's own heap.
-fn gather_all(texts: &Texts, g: &mut Gathering) -> Result<usize, AllocError>
+fn gather_all(texts: &Texts, g: &mut Gathering) -> Result<u32, AllocError>
     requires heap { length texts.now.heap.items ≤ usual.section }
     requires literals { length texts.now.literals.items ≤ usual.section }
-    requires limit { g.old.dense ≤ usual.dense }
     requires none { IsNothing g.old }
     ensures limit { g.new.dense ≡ g.old.dense }
+    ensures small { OnOk result (IsSmall g.new.held) }
     ensures all { IfOk result (AreAll texts.now g.new) }
 {
     gather_lines(texts, 0, &texts.heap, g)?;
-    let own = g.arena.cells.len();
+    let own = g.held.parts.len() as u32;
     gather_lines(texts, texts.heap.len(), &texts.literals, g)?;
     Ok(own)
 }
 
-// The cells of both bodies, whose references lead to cells.
-pub(crate) fn settled_texts(alloc: Global, texts: &Texts, dense: u32) -> Result<Settled, HeapFault>
+// What is held of both bodies, and how many of the cells are those of the process's own heap.
+pub(crate) fn gather_texts(
+    alloc: Global,
+    texts: &Texts,
+    dense: u32,
+) -> Result<(Held, u32), HeapFault>
     requires heap { length texts.now.heap.items ≤ usual.section }
     requires literals { length texts.now.literals.items ≤ usual.section }
     requires limit { dense ≤ usual.dense }
-    ensures settled { IfOk result (IsSettledHeap texts.now) }
+    ensures small { IfOk result (λ found. IsSmall found.0) }
+    ensures holds { IfOk result (λ found. HoldsTexts texts.now found.0 found.1) }
     ensures weight { OnOk result (weight_in texts.now ≤ dense) }
     ensures fault { IfErr result (IsOfTheTexts texts.now dense) }
 {
     let mut g = Gathering {
-        arena: Arena::new(alloc),
+        held: Held::new(alloc, Elements::slots(alloc)),
         weight: 0,
         dense,
     };
@@ -179,5 +140,5 @@ pub(crate) fn settled_texts(alloc: Global, texts: &Texts, dense: u32) -> Result<
     if g.weight > u64::from(dense) {
         return Err(HeapFault::TooDense { count: g.weight });
     }
-    Ok(settle(alloc, g.arena, own)?)
+    Ok((g.held, own))
 }

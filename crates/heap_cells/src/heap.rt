@@ -1,54 +1,107 @@
 // The heap of a process, by address.
-ghost use Rattle.std.specs.Prelude.{◌≡◌, [], ◌<◌, ◌≤◌, map, length, Some, IfSome, IfOk, IfErr};
+ghost use Rattle.std.specs.Prelude.{◌≡◌, [], ◌+◌, ◌<◌, ◌≤◌, map, length, Some, IfSome, IfOk, IfErr};
 ghost use Rattle.std.specs.Option.{option_map};
 ghost use Rattle.dump_io.specs.Limits.{usual};
 ghost use Rattle.term_forms.specs.SeenForms.{heap_form};
-ghost use Rattle.heap_cells.specs.Cells.{kind_of};
+ghost use Rattle.heap_cells.specs.Cells.{cells_of, kind_of, own_count};
 ghost use Rattle.heap_cells.specs.HeapMap.{IsBounded, address_at, form_at, elements_at, IsSpelled, nth_element};
 ghost use Rattle.dump_sections.specs.Index.{IsBuiltOver, sections_in};
 ghost use Rattle.heap_cells.specs.Loading.{heap_bodies, IsHeapAnswerFor, bodies_at, IsHeapFor, IsHeapAt, LoadsHeapFor, LoadsHeapAt, IsTextFault, RefusesLarge};
 ghost use Rattle.heap_cells.specs.Inner.Faults.{IsOfTheTexts};
+ghost use Rattle.heap_cells.specs.Inner.Settling.{IsSettledIn};
+ghost use Rattle.heap_cells.specs.Inner.Records.{row_end};
+ghost use Rattle.heap_graph.specs.Held.{start_at};
 ghost use Rattle.heap_cells.specs.Targets.{number, target, slot_target, kid_target, KeepsElement, IsSeatOf, IsWithin, targets_at, AreWithin};
 
 use crate::cells::{Kid, Seat};
 use crate::faults::HeapFault;
-use crate::gathering::settled_texts;
+use crate::gathering::gather_texts;
 use crate::kids::kid_of;
 use crate::loading::{large_bodies, read_texts};
 use crate::texts::{Texts, part};
-use cell_records::{Arena, CellIx, Kind, Settled, Slot, number_of, slots_of};
-use dump_io::{Dumps, Limits};
+use cell_records::{CellIx, Kind, Slot, number_of, resolved};
+use dump_io::{Dumps, Limits, items_between};
 use dump_sections::{BodyFault, Index};
-use std::alloc::Global;
+use heap_graph::{CellPart, Elements, Held, Ordered, Settled, settle, start_at};
+use std::alloc::{AllocError, Global};
 use std::marker::Model;
 use term_forms::shapes::Form;
-use term_forms::{Enc, spelled_form};
+use term_forms::{Enc, front_is_longest, spelled_form, whole_is_read};
 
 /// The cells of a process's heap, followed by those of the
 /// literals. Contracts see the list of the cells by number.
 #[derive(Drop)]
 pub struct Heap {
     texts: Texts,
-    arena: Arena,
+    parts: Vec<CellPart>,
+    kinds: Vec<Option<Kind>>,
+    slots: Vec<Slot>,
     order: Vec<u32>,
     own: u32,
 }
 
 impl Model for Heap {
     ghost use Rattle.heap_cells.specs.HeapMap.{HeapMap};
-    ghost use Rattle.heap_cells.specs.Inner.Keeping.{IsArenaOf};
-    ghost use Rattle.heap_cells.specs.Inner.Texts.{text_of};
-    ghost use Rattle.heap_cells.specs.Inner.Records.{cells_in};
+    ghost use Rattle.heap_cells.specs.Inner.Texts.{seam_of, text_of};
+    ghost use Rattle.heap_cells.specs.Inner.Records.{cells_at, IsHeap};
 
     ghost Value = { HeapMap };
 
     ghost view = { λ h. record {
-      cells = cells_in (text_of h.texts) h.texts.enc h.arena.cells.items;
+      cells = cells_at (text_of h.texts) h.texts.enc h.parts.items;
       own = h.own;
       enc = h.texts.enc;
     } };
 
-    ghost invariant = { λ h. IsArenaOf h.texts h.arena h.order.items h.own };
+    ghost invariant = { λ h. IsHeap (text_of h.texts) (seam_of h.texts) h.texts.enc h.parts.items h.kinds.items h.slots.items
+        h.order.items h.own };
+}
+
+// The heap of cells with different addresses.
+fn heap_of(alloc: Global, texts: Texts, ordered: Ordered) -> Result<Heap, AllocError>
+    requires heap { length texts.heap.items ≤ usual.section }
+    requires literals { length texts.literals.items ≤ usual.section }
+    requires settled { IsSettledIn texts ordered }
+    ensures heap { IfOk result (λ h. h ≡ record {
+      cells = cells_of texts.enc texts.heap.items texts.literals.items;
+      own = own_count texts.enc texts.heap.items;
+      enc = texts.enc;
+    }) }
+{
+    let Ordered { settled, ranks } = ordered;
+    let Settled { held, own } = settled;
+    let Held {
+        parts,
+        kinds,
+        elements,
+    } = held;
+    let Elements::Slots(slots) = elements else {
+        unreachable!()
+    };
+    let slots = resolved(alloc, slots, &ranks, &parts)?;
+    let order = ranks.numbers(alloc)?;
+    Ok(Heap {
+        texts,
+        parts,
+        kinds,
+        slots,
+        order,
+        own,
+    })
+}
+
+// Where the elements of a cell begin and end among those of all cells, given the kind of the cell.
+// The address of a sub binary is no element, so that the slot that it has is none.
+fn row(parts: &[CellPart], slots: &[Slot], kind: Option<Kind>, i: usize) -> (usize, usize)
+    requires { i < length parts.now }
+    ensures from { result.0 ≡ start_at parts.now i (length slots.now) }
+    ensures upto { result.1 ≡ row_end kind result.0 (start_at parts.now (i + 1) (length slots.now)) }
+{
+    let from = start_at(parts, i, slots.len());
+    match kind {
+        Some(Kind::SubBin) => (from, from),
+        _ => (from, start_at(parts, i + 1, slots.len())),
+    }
 }
 
 impl Heap {
@@ -151,15 +204,8 @@ impl Heap {
         ensures enc { IfOk result (λ heap. heap.enc ≡ texts.enc) }
         ensures fault { IfErr result (IsOfTheTexts texts dense) }
     {
-        match settled_texts(alloc, &texts, dense) {
-            Ok(Settled { arena, order, own }) => Ok(Heap {
-                texts,
-                arena,
-                order,
-                own,
-            }),
-            Err(fault) => Err(fault),
-        }
+        let (held, own) = gather_texts(alloc, &texts, dense)?;
+        Ok(heap_of(alloc, texts, settle(alloc, held, own)?)?)
     }
 
     /// The number of cells.
@@ -167,7 +213,7 @@ impl Heap {
         ensures value { result ≡ length self.now.cells }
         ensures bounded { IsBounded self.now }
     {
-        self.arena.cells.len() as u32
+        self.parts.len() as u32
     }
 
     /// How many of the cells come from the process's own heap. They come first.
@@ -198,7 +244,7 @@ impl Heap {
         requires { number ix < length self.now.cells }
         ensures { Some result ≡ address_at self.now.cells (number ix) }
     {
-        self.arena.cells[ix.number() as usize].address
+        self.parts[ix.number() as usize].address
     }
 
     /// The kind of a cell's form. Returns `None` exactly when the cell is malformed.
@@ -206,7 +252,7 @@ impl Heap {
         requires { number ix < length self.now.cells }
         ensures { result ≡ option_map kind_of (form_at self.now.cells (number ix)) }
     {
-        self.arena.cells[ix.number() as usize].kind
+        self.kinds[ix.number() as usize]
     }
 
     /// The number of elements of a cell's form; a malformed cell has none. The
@@ -227,8 +273,11 @@ impl Heap {
         ensures element { IfSome (nth_element self.now.cells (number ix) n) (KeepsElement result) }
         ensures within { IsWithin (length self.now.cells) (kid_target result) }
     {
+        front_is_longest();
+        whole_is_read();
         let i = ix.number() as usize;
-        let slot = slots_of(&self.arena, i)[n as usize];
+        let (from, _) = row(&self.parts, &self.slots, self.kinds[i], i);
+        let slot = self.slots[from + n as usize];
         kid_of(&self.texts, slot)
     }
 
@@ -239,11 +288,13 @@ impl Heap {
         ensures form { option_map heap_form result ≡ form_at self.now.cells (number ix) }
         ensures spelled { IfSome result (λ form. IsSpelled self.now.enc (heap_form form)) }
     {
-        let cell = &self.arena.cells[ix.number() as usize];
-        match cell.kind {
+        let i = ix.number() as usize;
+        let cell = self.parts[i];
+        let from = cell.at as usize;
+        match self.kinds[i] {
             None => None,
             Some(_) => Some(spelled_form(
-                part(&self.texts, cell.at as usize, (cell.at + cell.len) as usize),
+                part(&self.texts, from, from + cell.size as usize),
                 self.texts.enc,
             )),
         }
@@ -256,18 +307,20 @@ impl Heap {
         ensures within { AreWithin (length self.now.cells) result.now }
         ensures few { length result.now ≤ usual.dense }
     {
-        slots_of(&self.arena, ix.number() as usize)
+        let i = ix.number() as usize;
+        let (from, upto) = row(&self.parts, &self.slots, self.kinds[i], i);
+        items_between(&self.slots, from, upto)
     }
 
     /// What an address leads to.
     pub fn at(&self, addr: u64) -> Seat
         ensures { IsSeatOf self.now.cells addr result }
     {
-        let Some(n) = number_of(&self.order, &self.arena.cells, addr) else {
+        let Some(n) = number_of(&self.order, &self.parts, addr) else {
             return Seat::Missing;
         };
         let ix = CellIx::new(n);
-        match self.arena.cells[n as usize].kind {
+        match self.kinds[n as usize] {
             None => Seat::Malformed(ix),
             Some(_) => Seat::Cell(ix),
         }

@@ -17,11 +17,9 @@
 
 mod cells;
 mod faults;
-mod found;
 mod gathering;
 mod heap;
 mod kids;
-mod kinds;
 mod loading;
 mod spelled;
 mod texts;
@@ -30,5 +28,5 @@ pub use cell_records::{CellIx, Kind, Slot, Span, Why};
 pub use cells::{Kid, Seat};
 pub use faults::HeapFault;
 pub use heap::Heap;
-pub use kinds::kind_of;
+pub use heap_graph::kind_of;
 pub use loading::enc_of;

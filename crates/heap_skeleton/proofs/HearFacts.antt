@@ -1,7 +1,8 @@
 -- What is heard of the lines of a heap.
-use Rattle.std.proofs.Common.{◌≡◌, ℕ, List, [], length, refl, ◌∙◌, ap, ap₂}
+use Rattle.std.proofs.Common.{◌≡◌, ℕ, List, [], length, refl, sym, ◌∙◌, ap, ap₂, subst}
 use Rattle.std.specs.Prelude.{Result, Ok, Err, OnOk, IfErr, Option}
 use Rattle.std.specs.List.{between}
+use Rattle.std.proofs.lemmas.List.Elements.{filter_map-append}
 use Rattle.body_lines.specs.Hearing.{Hears, HearsBody, StopsAmong}
 use Rattle.body_lines.specs.Lines.{lines_at}
 use Rattle.dump_io.specs.Dumps.{Now}
@@ -10,8 +11,20 @@ use Rattle.dump_sections.specs.Bodies.{body_in, body_start}
 use Rattle.dump_sections.specs.Sections.{Section}
 use Rattle.heap_skeleton.specs.declared.heap_sink.HeapSink.{HeapSink}
 use Rattle.heap_skeleton.specs.Inner.Hearing.{TakesLines, HearsSection, HoldsSections, section_lines}
-use Rattle.heap_skeleton.specs.Inner.Held.{heap_lines, Gains, IsHeld}
-use Rattle.heap_skeleton.proofs.GainFacts.{Gains-none, IsHeld-then, hears-takes, length-parts}
+use Rattle.heap_graph.specs.Held.{heap_line_of, heap_lines, Gains, IsHeld}
+use Rattle.heap_graph.specs.Laws.Gains.{Gains-none, Gains-then, IsHeld-then, length-parts}
+
+-- what a sink has heard
+hears-takes : (old new : HeapSink) (lines : List Line) → TakesLines old new lines → Hears TakesLines old new lines
+hears-takes old new lines took = record {
+  later = λ first earlier had. record {
+    enc = took.enc ∙ had.enc;
+    gains =
+        subst (Gains first.held new.held) (sym (filter_map-append (heap_line_of first.enc) earlier lines))
+        (Gains-then first.held old.held new.held (heap_lines first.enc earlier) (heap_lines first.enc lines) had.gains
+        (subst (λ e. Gains old.held new.held (heap_lines e lines)) had.enc took.gains));
+  };
+}
 
 TakesLines-none : (a : HeapSink) → TakesLines a a []
 TakesLines-none a = record { enc = refl; gains = Gains-none a.held }
@@ -49,7 +62,7 @@ sections-hold first mid last now now' heap literals own empty same one other cou
       heap_lines = one.lines;
       literal_lines = other.lines;
       held_is = IsHeld-then mid.held last.held one.lines other.lines held other.gains;
-      own_is = count ∙ ap length held.parts ∙ length-parts 0 one.lines;
+      own_is = count ∙ ap length held.parts ∙ length-parts mid.held.elements 0 one.lines;
       heap_are = one.are;
       literals_are = λ dump is. other.are dump (same ∙ is) ∙ ap (λ e. section_lines e dump literals) one.enc;
     }

@@ -1,5 +1,5 @@
 -- The skeleton of the heap lines of two sections.
-use Rattle.std.proofs.Common.{◌≡◌, ℕ, ◌+◌, ◌≤◌, ◌==◌, Bool, true, false, cond, List, [], ◌∷◌, ◌++◌, length, take, map, Option, None, Some, refl, sym, ◌∙◌, ap, ap₂, arith, length-append}
+use Rattle.std.proofs.Common.{◌≡◌, ℕ, ◌+◌, ◌-◌, ◌≤◌, ◌==◌, Bool, true, false, cond, List, [], ◌∷◌, ◌++◌, length, take, map, Option, None, Some, refl, sym, ◌∙◌, ap, ap₂, arith, length-append}
 use Rattle.std.specs.List.{cons_option, filter_map, list_any}
 use Rattle.std.specs.Option.{option_map}
 use Rattle.std.proofs.lemmas.List.{length-map, map-append}
@@ -15,14 +15,14 @@ use Rattle.heap_cells.specs.Cells.{Cell, addresses, cell_of, first_cells, kind_o
 use Rattle.heap_cells.specs.Loading.{enc_of}
 use Rattle.heap_cells.specs.Places.{placed_line, placed_lines}
 use Rattle.term_forms.specs.Words.{led_of}
-use Rattle.heap_skeleton.specs.declared.held.Held.{Held}
+use Rattle.heap_graph.specs.declared.held.Held.{Held}
 use Rattle.cell_graphs.specs.Graphs.{graph_of}
 use Rattle.heap_skeleton.specs.Inner.Hearing.{HoldsSections, section_lines}
-use Rattle.heap_skeleton.specs.Inner.Held.{HeapLine, first_lines, heap_lines}
+use Rattle.heap_graph.specs.Held.{HeapLine, first_lines, heap_line_with, heap_lines}
 use Rattle.heap_skeleton.specs.Inner.Shown.{skeleton_with}
 use Rattle.heap_skeleton.specs.Skeletons.{SkeletonMap, first_places, skeleton_in}
-use Rattle.cell_words.specs.Words.{words_in}
-use Rattle.heap_skeleton.proofs.LaidFacts.{lines-count}
+use Rattle.heap_graph.specs.Words.{words_in}
+use Rattle.heap_graph.specs.Laws.Laid.{lines-count}
 use Rattle.heap_skeleton.proofs.ShownFacts.{cells_in, map-two, shown-equal}
 
 -- ---- the cells of lines, and where these begin
@@ -30,30 +30,30 @@ use Rattle.heap_skeleton.proofs.ShownFacts.{cells_in, map-two, shown-equal}
 abbrev place_of : HeapLine → ℕ × ℕ
 place_of line = (line.cell.address, line.at)
 
-abbrev heap_line_with : Enc → ℕ → ℕ × List ℕ → HeapLine
-heap_line_with enc at led = record { cell = spelled_cell enc led; at = at }
+abbrev line_with : Enc → ℕ → List ℕ → ℕ × List ℕ → HeapLine
+line_with enc at text led = heap_line_with enc at (at + (length text - length led.1)) led
 
-cell-of-line : (enc : Enc) (at : ℕ) (o : Option (ℕ × List ℕ)) (lines : List HeapLine) (cells : List Cell) → cells_in lines ≡ cells
-    → cells_in (cons_option (option_map (heap_line_with enc at) o) lines) ≡ cons_option (option_map (spelled_cell enc) o) cells
-cell-of-line enc at None lines cells is = is
-cell-of-line enc at (Some led) lines cells is = ap (λ l. spelled_cell enc led ∷ l) is
+cell-of-line : (enc : Enc) (at : ℕ) (text : List ℕ) (o : Option (ℕ × List ℕ)) (lines : List HeapLine) (cells : List Cell) → cells_in lines ≡ cells
+    → cells_in (cons_option (option_map (line_with enc at text) o) lines) ≡ cons_option (option_map (spelled_cell enc) o) cells
+cell-of-line enc at text None lines cells is = is
+cell-of-line enc at text (Some led) lines cells is = ap (λ l. spelled_cell enc led ∷ l) is
 
 cells-raw : (enc : Enc) (at from : ℕ) (raws : List (List ℕ)) → cells_in (heap_lines enc (lines_from at raws)) ≡ filter_map (cell_of enc) (map text_line (lines_from from raws))
 cells-raw enc at from [] = refl
 cells-raw enc at from (raw ∷ raws) =
-    cell-of-line enc at (led_of (text_of raw)) (heap_lines enc (lines_from (at + length raw) raws)) (filter_map (cell_of enc) (map text_line (lines_from (from + length raw) raws)))
+    cell-of-line enc at (text_of raw) (led_of (text_of raw)) (heap_lines enc (lines_from (at + length raw) raws)) (filter_map (cell_of enc) (map text_line (lines_from (from + length raw) raws)))
     (cells-raw enc (at + length raw) (from + length raw) raws)
 
-place-of-line : (enc : Enc) (at : ℕ) (o : Option (ℕ × List ℕ)) (lines : List HeapLine) (places : List (ℕ × ℕ)) → map place_of lines ≡ places
-    → map place_of (cons_option (option_map (heap_line_with enc at) o) lines) ≡ cons_option (option_map (λ (led : ℕ × List ℕ). (led.0, at)) o) places
-place-of-line enc at None lines places is = is
-place-of-line enc at (Some led) lines places is = ap (λ l. (led.0, at) ∷ l) is
+place-of-line : (enc : Enc) (at : ℕ) (text : List ℕ) (o : Option (ℕ × List ℕ)) (lines : List HeapLine) (places : List (ℕ × ℕ)) → map place_of lines ≡ places
+    → map place_of (cons_option (option_map (line_with enc at text) o) lines) ≡ cons_option (option_map (λ (led : ℕ × List ℕ). (led.0, at)) o) places
+place-of-line enc at text None lines places is = is
+place-of-line enc at text (Some led) lines places is = ap (λ l. (led.0, at) ∷ l) is
 
 places-raw : (enc : Enc) (base at : ℕ) (raws : List (List ℕ)) → map place_of (heap_lines enc (lines_from (base + at) raws)) ≡ filter_map (placed_line base) (map text_line (lines_from at raws))
 places-raw enc base at [] = refl
 places-raw enc base at (raw ∷ raws) =
     let next : base + at + length raw ≡ base + (at + length raw) = omega arith in
-    place-of-line enc (base + at) (led_of (text_of raw)) (heap_lines enc (lines_from (base + at + length raw) raws)) (filter_map (placed_line base) (map text_line (lines_from (at + length raw) raws)))
+    place-of-line enc (base + at) (text_of raw) (led_of (text_of raw)) (heap_lines enc (lines_from (base + at + length raw) raws)) (filter_map (placed_line base) (map text_line (lines_from (at + length raw) raws)))
     (ap (λ n. map place_of (heap_lines enc (lines_from n raws))) next ∙ places-raw enc base (at + length raw) raws)
 
 pub section-cells : (enc : Enc) (dump : List ℕ) (found : Option Section) → cells_in (section_lines enc dump found) ≡ line_cells enc (body_in dump found)

@@ -10,9 +10,9 @@ use Rattle.std.proofs.lemmas.Option.{get_or_from_slice_get, slice_get_within, sl
 use Rattle.cell_records.specs.declared.cells.Kind.{Kind}
 use Rattle.cell_records.specs.Order.{number_with}
 use Rattle.heap_skeleton.specs.declared.far.Far.{Far}
-use Rattle.heap_skeleton.specs.declared.leads.Lead.{Lead}
-use Rattle.heap_skeleton.specs.declared.leads.Lead.TheVariants as lead
-use Rattle.heap_skeleton.specs.Inner.Leads.{mark, marks, nowhere, reference, references}
+use Rattle.heap_graph.specs.declared.leads.Lead.{Lead}
+use Rattle.heap_graph.specs.declared.leads.Lead.TheVariants as lead
+use Rattle.heap_graph.specs.Leads.{mark, marks, nowhere, reference, references}
 use Rattle.heap_skeleton.specs.Inner.Targets.{lead_to, number_for, resolved}
 use Rattle.heap_skeleton.specs.Inner.Resolving.{far_with, lead_at, no_far, number_at, AreFar, AreNearResolved, HasPlace, IsResolving, IsSettling}
 

@@ -4,7 +4,7 @@ use Rattle.std.specs.Prelude.{slice_get, slice_range, position, unwrap_or}
 use Rattle.std.specs.List.{flat_map}
 use Rattle.std.specs.Option.{option_and_then, option_map}
 use Rattle.std.proofs.lemmas.Bool.{false_from_ne_true, eqb-true}
-use Rattle.std.proofs.lemmas.List.{append-nil, get_or-drop, get_or-take, length-map, length-take, map-append}
+use Rattle.std.proofs.lemmas.List.{get_or-drop, get_or-take, length-map, length-take, map-append}
 use Rattle.std.proofs.lemmas.Option.{slice_get-get_or, slice_get-map}
 use Rattle.dump_io.specs.Laws.Lists.{position-map}
 use Rattle.cell_records.specs.declared.cells.Kind.{Kind}
@@ -14,21 +14,27 @@ use Rattle.heap_cells.specs.Cells.{Cell, elements_in, kind_of}
 use Rattle.heap_cells.specs.HeapMap.{form_at, number_at}
 use Rattle.heap_cells.specs.Laws.Cells.{number_at-within}
 use Rattle.heap_cells.specs.Targets.{target, target_at}
-use Rattle.heap_skeleton.specs.declared.held.CellPart.{CellPart}
-use Rattle.heap_skeleton.specs.declared.held.Held.{Held}
-use Rattle.heap_skeleton.specs.declared.leads.Lead.{Lead}
-use Rattle.heap_skeleton.specs.declared.leads.Lead.TheVariants as lead
+use Rattle.heap_graph.specs.declared.elements.Elements.{Elements}
+use Rattle.heap_graph.specs.declared.elements.Elements.TheVariants as kept
+use Rattle.heap_graph.specs.declared.held.CellPart.{CellPart}
+use Rattle.heap_graph.specs.declared.held.Held.{Held}
+use Rattle.heap_graph.specs.declared.leads.Lead.{Lead}
+use Rattle.heap_graph.specs.declared.leads.Lead.TheVariants as lead
+use Rattle.heap_graph.specs.declared.leads.Leads.{Leads}
 use Rattle.cell_graphs.specs.Graphs.{LeadsWithin, bin_at, bin_in, cell_in, places_of}
 use Rattle.cell_graphs.specs.Laws.HeapGraphs.{heap-within}
-use Rattle.heap_skeleton.specs.Inner.Held.{HeapLine, addresses_of, line_at, line_kind, marks_of, references_of, parts_of, start_at, IsHeld, IsSmall}
-use Rattle.heap_skeleton.specs.Inner.Leads.{cell_for, lead_of, leads_in, mark, marks, nowhere, reference, references}
+use Rattle.heap_graph.specs.Elements.{KeepsThem}
+use Rattle.heap_graph.specs.Held.{HeapLine, addresses_of, line_at, line_kind, line_leads, parts_of, start_at, IsHeld, IsSmall}
+use Rattle.heap_graph.specs.Leads.{cell_for, lead_of, leads_in, marks, nowhere, references}
 use Rattle.cell_records.specs.Order.{number_with, IsOrder}
+use Rattle.heap_skeleton.specs.Inner.Resolving.{AreResolved}
 use Rattle.heap_skeleton.specs.Inner.Shown.{leads_from, shown_skeleton, skeleton_with, start_of, AreLaid, IsSound, IsSpanOf}
 use Rattle.heap_skeleton.specs.Inner.Targets.{bin_with, is_bin, led_to, resolved}
 use Rattle.heap_skeleton.specs.Skeletons.{SkeletonMap}
-use Rattle.cell_words.specs.Words.{words_in}
-use Rattle.heap_skeleton.proofs.KeepFacts.{held-addresses, line_address, parts-addresses}
-use Rattle.heap_skeleton.proofs.LaidFacts.{kind-at, kinds-count, lines-count}
+use Rattle.heap_graph.specs.Words.{words_in}
+use Rattle.heap_graph.specs.Laws.Elements.{leads-are}
+use Rattle.heap_graph.specs.Laws.Keeping.{held-addresses, line_address, parts-addresses}
+use Rattle.heap_graph.specs.Laws.Laid.{kind-at, kinds-count, lines-count}
 
 -- ---- where the elements of a part begin and end
 
@@ -76,69 +82,56 @@ lead-at leads from upto place number places are inside read =
     ∙ ap Some (get_or-take (upto - from) (drop from leads) place number before ∙ get_or-drop from leads place number ∙ sym read))
 
 -- the words of a part
-pub words-part : (parts : List CellPart) (i : ℕ) (part : CellPart) → i < length parts → part ≡ get_or parts i part → part.words ≡ get_or (map (λ (p : CellPart). p.words) parts) i 0
+pub words-part : (parts : List CellPart) (i : ℕ) (part : CellPart) → i < length parts → part ≡ get_or parts i part → part.size ≡ get_or (map (λ (p : CellPart). p.size) parts) i 0
 words-part [] i part inside is = absurd (omega (arith, inside))
-words-part (p ∷ parts) zero part inside is = ap (λ (q : CellPart). q.words) is
+words-part (p ∷ parts) zero part inside is = ap (λ (q : CellPart). q.size) is
 words-part (p ∷ parts) (suc i) part inside is = words-part parts i part (omega (arith, inside)) is
 
 -- ---- what is held of lines
 
-parts-lines : (first : ℕ) (lines : List HeapLine) → map (λ (p : CellPart). p.line) (parts_of first lines) ≡ map (λ (l : HeapLine). l.at) lines
-parts-lines first [] = refl
-parts-lines first (line ∷ lines) = ap (λ l. line.at ∷ l) (parts-lines (first + length (marks_of line)) lines)
+parts-lines : (first : ℕ) (leads : Leads) (lines : List HeapLine) → map (λ (p : CellPart). p.at) (parts_of (kept.Leads leads) first lines) ≡ map (λ (l : HeapLine). l.at) lines
+parts-lines first leads [] = refl
+parts-lines first leads (line ∷ lines) = ap (λ l. line.at ∷ l) (parts-lines (first + length (line_leads line)) leads lines)
 
-parts-words : (first : ℕ) (lines : List HeapLine) → map (λ (p : CellPart). p.words) (parts_of first lines) ≡ map (λ (l : HeapLine). words_in l.cell.form) lines
-parts-words first [] = refl
-parts-words first (line ∷ lines) = ap (λ l. words_in line.cell.form ∷ l) (parts-words (first + length (marks_of line)) lines)
+parts-words : (first : ℕ) (leads : Leads) (lines : List HeapLine) → map (λ (p : CellPart). p.size) (parts_of (kept.Leads leads) first lines) ≡ map (λ (l : HeapLine). words_in l.cell.form) lines
+parts-words first leads [] = refl
+parts-words first leads (line ∷ lines) = ap (λ l. words_in line.cell.form ∷ l) (parts-words (first + length (line_leads line)) leads lines)
 
-start-parts-of : (first : ℕ) (lines : List HeapLine) (total : ℕ) → first ≤ total → (lines ≡ [] → first ≡ total) → (first ≤ start_of (parts_of first lines) total) × (start_of (parts_of first lines) total ≤ total)
-start-parts-of first [] total few last = (few, omega arith)
-start-parts-of first (line ∷ lines) total few last = (omega arith, few)
+start-parts-of : (e : Elements) (first : ℕ) (lines : List HeapLine) (total : ℕ) → first ≤ total → (lines ≡ [] → first ≡ total) → (first ≤ start_of (parts_of e first lines) total) × (start_of (parts_of e first lines) total ≤ total)
+start-parts-of e first [] total few last = (few, omega arith)
+start-parts-of e first (line ∷ lines) total few last = (omega arith, few)
 
-pub laid-parts : (first : ℕ) (lines : List HeapLine) (total : ℕ) → total ≡ first + length (flat_map marks_of lines) → AreLaid (parts_of first lines) total
-laid-parts first [] total is = tt
-laid-parts first (line ∷ lines) total is =
-    let size = length-append (marks_of line) (flat_map marks_of lines) in
-    let next = first + length (marks_of line) in
-    let bounds = start-parts-of next lines total (omega (arith, is, size)) (λ none. omega (arith, is, size, ap (λ l. length (flat_map marks_of l)) none)) in
-    (omega (arith, bounds.0), bounds.1, laid-parts next lines total (omega (arith, is, size)))
-
--- the elements of all lines, in order
-abbrev pub line_leads : HeapLine → List Lead
-line_leads line = leads_in line.cell.form
-
-pub marks-flat : (lines : List HeapLine) → flat_map marks_of lines ≡ marks (flat_map line_leads lines)
-marks-flat [] = refl
-marks-flat (line ∷ lines) = ap (λ l. marks_of line ++ l) (marks-flat lines) ∙ sym (map-append mark (line_leads line) (flat_map line_leads lines))
-
-pub references-flat : (lines : List HeapLine) → flat_map references_of lines ≡ references (flat_map line_leads lines)
-references-flat [] = refl
-references-flat (line ∷ lines) =
-    ap (λ l. references_of line ++ l) (references-flat lines) ∙ sym (Rattle.std.proofs.lemmas.List.Concat.flat_map-append reference (line_leads line) (flat_map line_leads lines))
+pub laid-parts : (e : Elements) (first : ℕ) (lines : List HeapLine) (total : ℕ) → total ≡ first + length (flat_map line_leads lines) → AreLaid (parts_of e first lines) total
+laid-parts e first [] total is = tt
+laid-parts e first (line ∷ lines) total is =
+    let size = length-append (line_leads line) (flat_map line_leads lines) in
+    let next = first + length (line_leads line) in
+    let bounds = start-parts-of e next lines total (omega (arith, is, size)) (λ none. omega (arith, is, size, ap (λ l. length (flat_map line_leads l)) none)) in
+    (omega (arith, bounds.0), bounds.1, laid-parts e next lines total (omega (arith, is, size)))
 
 numbers-flat : (f : Lead → ℕ) (lines : List HeapLine) → map f (flat_map line_leads lines) ≡ flat_map (λ (l : HeapLine). map f (line_leads l)) lines
 numbers-flat f [] = refl
 numbers-flat f (line ∷ lines) = map-append f (line_leads line) (flat_map line_leads lines) ∙ ap (λ l. map f (line_leads line) ++ l) (numbers-flat f lines)
 
 middle : (xs ys zs : List ℕ) (n m : ℕ) → n ≡ length xs → m ≡ length xs + length ys → slice_range (xs ++ (ys ++ zs)) n m ≡ ys
-middle xs ys zs n m n_is m_is = ap₂ (slice_range (xs ++ (ys ++ zs))) n_is m_is ∙ Rattle.heap_skeleton.proofs.LaidFacts.range-middle xs ys zs (length xs + length ys) refl
+middle xs ys zs n m n_is m_is = ap₂ (slice_range (xs ++ (ys ++ zs))) n_is m_is ∙ Rattle.heap_graph.specs.Laws.Laid.range-middle xs ys zs (length xs + length ys) refl
 
 -- the elements of each line, whatever their numbers are
-leads-parts : (f : Lead → ℕ) (first : ℕ) (lines : List HeapLine) (front : List ℕ) → length front ≡ first
-    → leads_from (parts_of first lines) (front ++ flat_map (λ (l : HeapLine). map f (line_leads l)) lines) ≡ map (λ (l : HeapLine). map cell_for (map f (line_leads l))) lines
-leads-parts f first [] front count = refl
-leads-parts f first (line ∷ lines) front count =
+leads-parts : (e : Elements) (f : Lead → ℕ) (first : ℕ) (lines : List HeapLine) (front : List ℕ) → length front ≡ first
+    → leads_from (parts_of e first lines) (front ++ flat_map (λ (l : HeapLine). map f (line_leads l)) lines) ≡ map (λ (l : HeapLine). map cell_for (map f (line_leads l))) lines
+leads-parts e f first [] front count = refl
+leads-parts e f first (line ∷ lines) front count =
     let own = map f (line_leads line) in
     let later = flat_map (λ (l : HeapLine). map f (line_leads l)) lines in
-    let size : length (marks_of line) ≡ length own = length-map (line_leads line) mark ∙ sym (length-map (line_leads line) f) in
-    let end : start_of (parts_of (first + length (marks_of line)) lines) (length (front ++ (own ++ later))) ≡ length front + length own =
-    ends lines (first + length (marks_of line)) (length front + length own) (length (front ++ (own ++ later))) (omega (arith, count, size))
+    let size : length (line_leads line) ≡ length own = sym (length-map (line_leads line) f) in
+    let end : start_of (parts_of e (first + length (line_leads line)) lines) (length (front ++ (own ++ later))) ≡ length front + length own =
+    ends lines (first + length (line_leads line)) (length front + length own) (length (front ++ (own ++ later))) (omega (arith, count, size))
     (λ none. length-append front (own ++ later) ∙ (let a = length-append own later in let b = ap (λ ls. length (flat_map (λ (l : HeapLine). map f (line_leads l)) ls)) none in omega (arith, a, b))) in
     ap₂ (λ a b. a ∷ b) (ap (map cell_for) (middle front own later first _ (sym count) end))
-    (ap (leads_from (parts_of (first + length (marks_of line)) lines)) (sym (append_assoc front own later))
-    ∙ leads-parts f (first + length (marks_of line)) lines (front ++ own) (let a = length-append front own in omega (arith, a, count, size)))
+    (ap (leads_from (parts_of e (first + length (line_leads line)) lines)) (sym (append_assoc front own later))
+    ∙ leads-parts e f (first + length (line_leads line)) lines (front ++ own) (let a = length-append front own in omega (arith, a, count, size)))
   where
-    ends : (ls : List HeapLine) (next m total : ℕ) → next ≡ m → (ls ≡ [] → total ≡ m) → start_of (parts_of next ls) total ≡ m
+    ends : (ls : List HeapLine) (next m total : ℕ) → next ≡ m → (ls ≡ [] → total ≡ m) → start_of (parts_of e next ls) total ≡ m
     ends [] next m total is none = none refl
     ends (l ∷ ls) next m total is none = is
 
@@ -244,33 +237,44 @@ pub shown-equal : (own : ℕ) (a a' b b' : List ℕ) (k k' : List (Option Kind))
     → shown own a b k w g ≡ shown own a' b' k' w' g'
 shown-equal own a a' b b' k k' w w' g g' one two three four five = cc (one, two, three, four, five)
 
-pub shown-lines : (own : ℕ) (lines : List HeapLine) (held : Held) (numbers : List ℕ) → IsHeld lines held → IsSmall held
-    → ((leads : List Lead) → held.leads.marks.items ≡ marks leads → held.leads.references.items ≡ references leads → numbers ≡ map (resolved (addresses_of held.parts.items) held.kinds.items) leads)
-    → shown_skeleton own held.parts.items held.kinds.items numbers ≡ skeleton_with own lines
-shown-lines own lines held numbers is small found =
+-- where the elements of lines lead, as it is kept
+pub leads-held : (lines : List HeapLine) (held : Held) (leads : Leads) → IsHeld lines held → held.elements ≡ kept.Leads leads
+    → (leads.marks.items ≡ marks (flat_map line_leads lines)) × (leads.references.items ≡ references (flat_map line_leads lines))
+leads-held lines held leads is leads_is =
+    let fs = is.elements.fs in
+    let keeps : KeepsThem (kept.Leads leads) fs = subst (λ (e : Elements). KeepsThem e fs) leads_is is.elements.keeps.are in
+    let are = leads-are lines fs is.elements.are in
+    (keeps.0 ∙ ap marks are, keeps.1 ∙ ap references are)
+
+pub shown-lines : (own : ℕ) (lines : List HeapLine) (held : Held) (leads : Leads) (numbers : List ℕ) → IsHeld lines held → IsSmall held → held.elements ≡ kept.Leads leads
+    → AreResolved (addresses_of held.parts.items) held.kinds.items leads numbers → shown_skeleton own held.parts.items held.kinds.items numbers ≡ skeleton_with own lines
+shown-lines own lines held leads numbers is small leads_is found =
     let xs = addresses_in lines in
     let kinds = held.kinds.items in
     let few : length lines ≤ 2 ^ 32 - 2 = omega (arith, small, lines-count lines held is) in
+    let are = leads-held lines held leads is leads_is in
     let numbers_are : numbers ≡ flat_map (λ (l : HeapLine). map (resolved xs kinds) (line_leads l)) lines =
-    found (flat_map line_leads lines) (is.marks ∙ marks-flat lines) (is.references ∙ references-flat lines)
+    found (flat_map line_leads lines) are.0 are.1
     ∙ ap (λ p. map (resolved p kinds) (flat_map line_leads lines)) (held-addresses lines held is) ∙ numbers-flat (resolved xs kinds) lines in
     ap (λ p. shown_skeleton own p kinds numbers) is.parts
-    ∙ shown-equal own _ _ _ _ _ _ _ _ _ _ (parts-addresses 0 lines) (parts-lines 0 lines) is.kinds (parts-words 0 lines)
-    (ap (leads_from (parts_of 0 lines)) numbers_are ∙ leads-parts (resolved xs kinds) 0 lines [] refl ∙ graph-parts lines kinds lines is.kinds few)
+    ∙ shown-equal own _ _ _ _ _ _ _ _ _ _ (parts-addresses held.elements 0 lines) (ap (λ e. map (λ (p : CellPart). p.at) (parts_of e 0 lines)) leads_is ∙ parts-lines 0 leads lines) is.kinds
+    (ap (λ e. map (λ (p : CellPart). p.size) (parts_of e 0 lines)) leads_is ∙ parts-words 0 leads lines)
+    (ap (leads_from (parts_of held.elements 0 lines)) numbers_are ∙ leads-parts held.elements (resolved xs kinds) 0 lines [] refl ∙ graph-parts lines kinds lines is.kinds few)
 
-pub sound-lines : (own : ℕ) (lines : List HeapLine) (held : Held) (numbers order : List ℕ) → IsHeld lines held → IsSmall held → own ≤ length held.parts.items → IsOrder (addresses_of held.parts.items) order
-    → ((leads : List Lead) → held.leads.marks.items ≡ marks leads → held.leads.references.items ≡ references leads → numbers ≡ map (resolved (addresses_of held.parts.items) held.kinds.items) leads)
+pub sound-lines : (own : ℕ) (lines : List HeapLine) (held : Held) (leads : Leads) (numbers order : List ℕ) → IsHeld lines held → IsSmall held → own ≤ length held.parts.items
+    → IsOrder (addresses_of held.parts.items) order → held.elements ≡ kept.Leads leads → AreResolved (addresses_of held.parts.items) held.kinds.items leads numbers
     → IsSound own held.parts.items held.kinds.items numbers order
-sound-lines own lines held numbers order is small own_few ordered found =
-    let size : length numbers ≡ 0 + length (flat_map marks_of lines) =
-    ap length (found (flat_map line_leads lines) (is.marks ∙ marks-flat lines) (is.references ∙ references-flat lines))
+sound-lines own lines held leads numbers order is small own_few ordered leads_is found =
+    let are = leads-held lines held leads is leads_is in
+    let size : length numbers ≡ 0 + length (flat_map line_leads lines) =
+    ap length (found (flat_map line_leads lines) are.0 are.1)
     ∙ length-map (flat_map line_leads lines) (resolved (addresses_of held.parts.items) held.kinds.items)
-    ∙ sym (length-map (flat_map line_leads lines) mark) ∙ ap length (sym (marks-flat lines)) ∙ (let same : length (flat_map marks_of lines) ≡ 0 + length (flat_map marks_of lines) = omega arith in same) in
+    ∙ (let same : length (flat_map line_leads lines) ≡ 0 + length (flat_map line_leads lines) = omega arith in same) in
     record {
       few = omega (arith, small);
       own_few = own_few;
       kinds_are = kinds-count lines held is;
-      laid = subst (λ p. AreLaid p (length numbers)) (sym is.parts) (laid-parts 0 lines (length numbers) size);
-      leads_within = subst LeadsWithin (ap (λ (v : SkeletonMap). v.leads) (sym (shown-lines own lines held numbers is small found))) (heap-within (cells_in lines));
+      laid = subst (λ p. AreLaid p (length numbers)) (sym is.parts) (laid-parts held.elements 0 lines (length numbers) size);
+      leads_within = subst LeadsWithin (ap (λ (v : SkeletonMap). v.leads) (sym (shown-lines own lines held leads numbers is small leads_is found))) (heap-within (cells_in lines));
       order_is = ordered;
     }

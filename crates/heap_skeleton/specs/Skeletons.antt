@@ -5,7 +5,7 @@ use Rattle.std.specs.Option.{option_map}
 use Rattle.cell_graphs.specs.Graphs.{Graph, graph_of}
 use Rattle.cell_records.specs.declared.cells.Kind.{Kind}
 use Rattle.cell_records.specs.declared.cells.Kind.TheVariants as kind
-use Rattle.cell_words.specs.Words.{words_list}
+use Rattle.heap_graph.specs.Words.{words_list}
 use Rattle.dump_sections.specs.Bodies.{body_in, body_start}
 use Rattle.dump_sections.specs.Index.{Contents, sections_in}
 use Rattle.dump_sections.specs.Sections.{Section}

@@ -1,10 +1,9 @@
 // Hearing the lines of a heap.
-ghost use Rattle.heap_skeleton.specs.Inner.Held.{IsSmall};
+ghost use Rattle.heap_graph.specs.Held.{IsSmall};
 ghost use Rattle.heap_skeleton.specs.Inner.Hearing.{TakesLines};
 
-use crate::gathering::gather_run;
-use crate::held::Held;
 use body_lines::WholeLineSink;
+use heap_graph::{Held, gather_run};
 use std::alloc::AllocError;
 use term_forms::Enc;
 

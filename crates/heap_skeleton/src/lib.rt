@@ -4,7 +4,7 @@
 //! most 65,536 bytes, whatever their lengths. The cells are those of `heap_cells`, with the same numbers. Of each cell is
 //! kept where its line begins in the file, its kind, its words, and the cells to which it leads: 29 bytes for a cell, and 4
 //! for each of its elements. No text is kept. A skeleton is a [`CellGraph`](cell_graphs::CellGraph) and
-//! [`Weighed`](cell_words::Weighed), as a heap in memory is, and says which kind each cell has.
+//! [`Weighed`](cell_graphs::Weighed), as a heap in memory is, and says which kind each cell has.
 //!
 //! ```text
 //! let skeleton = Skeleton::load(alloc, &mut dumps, &index, b"<0.1.0>")?;
@@ -17,15 +17,9 @@
 #![tactic(auto)]
 
 mod far;
-mod forms;
-mod gathering;
 mod heap_sink;
-mod held;
-mod keeping;
-mod leads;
 mod loading;
 mod resolving;
-mod settling;
 mod skeleton;
 
 pub use cell_records::Kind;

@@ -5,15 +5,16 @@ ghost use Rattle.dump_io.specs.Faults.{IsReadCauseOf};
 ghost use Rattle.dump_sections.specs.Bodies.{body_size, section_in, IsPlaceIn};
 ghost use Rattle.dump_sections.specs.Index.{IsBuiltOver};
 ghost use Rattle.heap_cells.specs.Loading.{enc_of};
-ghost use Rattle.heap_skeleton.specs.Inner.Held.{IsSmall};
+ghost use Rattle.heap_graph.specs.Elements.{IsOfLeads};
+ghost use Rattle.heap_graph.specs.Held.{IsSmall};
 ghost use Rattle.heap_skeleton.specs.Inner.Hearing.{HearsSection, HoldsSections};
 
 use crate::heap_sink::HeapSink;
-use crate::held::Held;
 use body_lines::hear_whole_lines;
 use dump_io::{Dumps, ReadFault};
 use dump_sections::Index;
 use heap_cells::enc_of;
+use heap_graph::{Elements, Held};
 use std::alloc::Global;
 
 // Gathers the heap lines of the section at a place. A missing section counts as empty.
@@ -54,13 +55,14 @@ pub(crate) fn read_lines<D: Dumps>(
         (body_size (section_in index.now heap) + body_size (section_in index.now literals)) }
     ensures fault { IfErr result (IsReadCauseOf (D.state dumps.old) (D.state dumps.new)) }
     ensures small { IfOk result (λ found. IsSmall found.0) }
+    ensures leads { IfOk result (λ found. IsOfLeads found.0.elements) }
     ensures holds { IfOk result (λ found. HoldsSections (enc_of index.now.version)
         (D.state dumps.old).now (section_in index.now heap) (section_in index.now literals)
         found.0 found.1) }
 {
     let mut buffer = Vec::new(alloc);
     let mut sink = HeapSink {
-        held: Held::new(alloc),
+        held: Held::new(alloc, Elements::leads(alloc)),
         enc: enc_of(index.version()),
     };
     hear_section(dumps, index, heap, &mut buffer, &mut sink)?;

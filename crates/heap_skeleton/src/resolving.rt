@@ -1,16 +1,15 @@
 // The numbers of the cells to which elements lead.
 ghost use Rattle.std.specs.Prelude.{◌≡◌, ◌<◌, ◌^◌, List, None, length, map, slice_index_or, slice_set, OnOk, IfOk};
 ghost use Rattle.cell_records.specs.Order.{AreAllFirst, AreRanked, IsRanking};
-ghost use Rattle.heap_skeleton.specs.declared.leads.Lead.{Lead};
-ghost use Rattle.heap_skeleton.specs.Inner.Held.{addresses_of};
-ghost use Rattle.heap_skeleton.specs.Inner.Leads.{marks, references};
+ghost use Rattle.heap_graph.specs.declared.leads.Lead.{Lead};
+ghost use Rattle.heap_graph.specs.Held.{addresses_of};
+ghost use Rattle.heap_graph.specs.Leads.{marks, references};
 ghost use Rattle.heap_skeleton.specs.Inner.Resolving.{no_far, AreNearResolved, IsFarSettled, ResolvesNext};
 ghost use Rattle.heap_skeleton.specs.Inner.Targets.{is_bin, number_for, resolved};
 
 use crate::far::Far;
-use crate::held::CellPart;
-use crate::leads::{BINARY, NOWHERE};
 use cell_records::{Kind, Near, Ranks, Search};
+use heap_graph::{BINARY, CellPart, NOWHERE};
 use std::alloc::{AllocError, Global};
 
 // Whether the cell with a number is a heap binary.

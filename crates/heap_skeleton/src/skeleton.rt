@@ -1,7 +1,7 @@
 // What leads where in a heap.
 ghost use Rattle.std.specs.Prelude.{◌≡◌, ◌<◌, ◌≤◌, ◌^◌, List, length, Some, slice_get, position, ◌==◌, IfOk, IfErr, IfSome};
 ghost use Rattle.cell_graphs.specs.Graphs.{LeadsWithin};
-ghost use Rattle.cell_words.specs.Binaries.{binaries_among};
+ghost use Rattle.heap_graph.specs.Binaries.{binaries_among};
 ghost use Rattle.cell_records.specs.Order.{AreAllFirst, AreRanked};
 ghost use Rattle.dump_io.specs.Dumps.{ReadsAtMost, IfTold};
 ghost use Rattle.dump_io.specs.Faults.{IsReadCauseOf};
@@ -9,23 +9,23 @@ ghost use Rattle.dump_sections.specs.Index.{IsBuiltOver, sections_in};
 ghost use Rattle.dump_sections.specs.Loading.{bodies_length};
 ghost use Rattle.heap_cells.specs.Loading.{heap_bodies};
 ghost use Rattle.heap_skeleton.specs.Skeletons.{is_tuple, skeleton_for};
-ghost use Rattle.heap_skeleton.specs.Inner.Held.{HeapLine, addresses_of, IsHeld, IsSmall};
-ghost use Rattle.heap_skeleton.specs.Inner.Keeping.{HoldsLines};
-ghost use Rattle.heap_skeleton.specs.Inner.Leads.{cell_for};
+ghost use Rattle.heap_graph.specs.Elements.{IsOfLeads};
+ghost use Rattle.heap_graph.specs.Held.{HeapLine, addresses_of, IsHeld, IsSmall};
+ghost use Rattle.heap_graph.specs.Keeping.{HoldsLines};
+ghost use Rattle.heap_graph.specs.Leads.{cell_for};
 ghost use Rattle.heap_skeleton.specs.Inner.Resolving.{AreResolved};
 ghost use Rattle.heap_skeleton.specs.Inner.Shown.{skeleton_with, AreLaid, IsSpanOf};
 
-use crate::held::{CellPart, Held, start_at};
-use crate::leads::{Leads, NOWHERE};
 use crate::loading::read_lines;
 use crate::resolving::resolve;
-use crate::settling::{Ordered, Settled, settle};
-use cell_graphs::CellGraph;
+use cell_graphs::{CellGraph, Weighed};
 use cell_parts::Kinded;
 use cell_records::{Kind, Ranks, number_of};
-use cell_words::{Weighed, is_binary_kind};
 use dump_io::{Dumps, ReadFault};
 use dump_sections::Index;
+use heap_graph::{
+    CellPart, Elements, Held, Leads, NOWHERE, Ordered, Settled, is_binary_kind, settle, start_at,
+};
 use std::alloc::{AllocError, Global};
 use std::marker::Model;
 
@@ -103,6 +103,7 @@ fn resolve_leads(
 fn skeleton_of(alloc: Global, ordered: Ordered) -> Result<Skeleton, AllocError>
     requires holds { HoldsLines ordered.settled.held }
     requires small { IsSmall ordered.settled.held }
+    requires leads { IsOfLeads ordered.settled.held.elements }
     requires own { ordered.settled.own ≤ length ordered.settled.held.parts.items }
     requires ranked { AreRanked (addresses_of ordered.settled.held.parts.items) ordered.ranks }
     requires distinct { AreAllFirst (addresses_of ordered.settled.held.parts.items) }
@@ -115,8 +116,11 @@ fn skeleton_of(alloc: Global, ordered: Ordered) -> Result<Skeleton, AllocError>
     let Held {
         mut parts,
         mut kinds,
-        leads,
+        elements,
     } = held;
+    let Elements::Leads(leads) = elements else {
+        unreachable!()
+    };
     let numbers = resolve_leads(alloc, leads, &ranks, &parts, &kinds)?;
     parts.shrink_to_fit();
     kinds.shrink_to_fit();
@@ -200,7 +204,7 @@ impl Skeleton {
         requires { cell < length self.now.addresses }
         ensures { slice_get self.now.lines cell ≡ Some result }
     {
-        self.parts[cell as usize].line
+        self.parts[cell as usize].at
     }
 
     /// The kind of a cell's form. A malformed cell has none.
@@ -255,7 +259,7 @@ impl Weighed for Skeleton {
     ghost own = { λ s. s.own };
 
     fn words(&self, cell: u32) -> u64 {
-        u64::from(self.parts[cell as usize].words)
+        u64::from(self.parts[cell as usize].size)
     }
 
     fn is_binary(&self, cell: u32) -> bool {

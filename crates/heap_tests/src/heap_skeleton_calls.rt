@@ -1,8 +1,7 @@
 // Skeletons of small dumps, drawn cell by cell.
 ghost use Rattle.std.specs.Prelude.{◌<◌, length};
 
-use cell_graphs::CellGraph;
-use cell_words::Weighed;
+use cell_graphs::{CellGraph, Weighed};
 use dump_io::{Dumps, Limits, MemDumps, ReadFault};
 use heap_skeleton::{Kind, Skeleton};
 use section_index::build;

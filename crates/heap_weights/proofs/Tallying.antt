@@ -5,8 +5,9 @@ use Rattle.std.proofs.Math.Path.{fun_ext}
 use Rattle.cell_graphs.specs.Counts.{count_below, one_if}
 use Rattle.cell_graphs.specs.Graphs.{Graph}
 use Rattle.cell_graphs.specs.Laws.Closing.{count-most}
-use Rattle.cell_words.specs.Binaries.{binary_at}
-use Rattle.cell_words.specs.Words.{words_at}
+use Rattle.heap_graph.specs.Binaries.{binary_at}
+use Rattle.heap_graph.specs.Words.{words_at}
+use Rattle.heap_graph.specs.Words.{words_at}
 use Rattle.heap_weights.specs.declared.holders.Holder.{Holder}
 use Rattle.heap_weights.specs.declared.holders.Holder.TheVariants.{Several, Part}
 use Rattle.heap_weights.specs.declared.shares.Shares.{Shares}
@@ -15,7 +16,7 @@ use Rattle.heap_weights.specs.Holders.{holder_at, is_held}
 use Rattle.heap_weights.specs.Parts.{holder_of}
 use Rattle.heap_weights.specs.Shares.{AreShares, AreSharesFor, is_same, weight_below, weight_of, weights_from, words_below, words_if}
 use Rattle.heap_weights.specs.Labels.{Labelling}
-use Rattle.heap_weights.specs.Inner.Labels.{AreHeldBy, IsRested}
+use Rattle.heap_weights.specs.Inner.Labels.{AreHeldBy}
 use Rattle.heap_weights.specs.Inner.Tallies.{Gains, HasTallied, added_if, alone_at, no_weight}
 
 -- ---- one cell more

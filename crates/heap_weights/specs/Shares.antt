@@ -2,8 +2,9 @@
 use Rattle.std.specs.Prelude.{◌≡◌, ℕ, zero, suc, ◌+◌, ◌==◌, ◌&&◌, Bool, true, false, List, [], ◌∷◌, length}
 use Rattle.cell_graphs.specs.Counts.{count_below}
 use Rattle.cell_graphs.specs.Graphs.{Graph}
-use Rattle.cell_words.specs.Binaries.{binary_at}
-use Rattle.cell_words.specs.Words.{words_at}
+use Rattle.heap_graph.specs.Binaries.{binary_at}
+use Rattle.heap_graph.specs.Words.{words_at}
+use Rattle.heap_graph.specs.Words.{words_at}
 use Rattle.heap_weights.specs.declared.holders.Holder.{Holder}
 use Rattle.heap_weights.specs.declared.holders.Holder.TheVariants.{Several, Part}
 use Rattle.heap_weights.specs.declared.shares.Shares.{Shares}

@@ -9,8 +9,7 @@ ghost use Rattle.heap_weights.specs.Inner.Tallies.{HasTallied};
 use crate::labels::Labels;
 use crate::shares::Shares;
 use crate::walking::walk;
-use cell_graphs::CellGraph;
-use cell_words::Weighed;
+use cell_graphs::{CellGraph, Weighed};
 use std::alloc::{AllocError, Global};
 
 // Each part walks, one after the other.

@@ -1,42 +1,32 @@
--- What the records and the slots of a heap stand for. The text is that of both bodies, one after the other.
-use Rattle.std.specs.Prelude.{◌≡◌, ℕ, ◌+◌, ◌≤◌, List, [], ◌∷◌, map, length, slice_get, slice_range, Option, None, Some, IsSome, nat_eq}
+-- What the parts of a heap and its slots stand for. The text is that of both bodies, one after the other.
+use Rattle.std.specs.Prelude.{◌≡◌, ℕ, ◌+◌, ◌≤◌, Bool, true, false, if◌then◌else◌, List, map, length, slice_range, Option, None, Some, IsSome, nat_eq}
 use Rattle.dump_io.specs.Limits.{usual}
-use Rattle.std.specs.Option.{option_map}
-use Rattle.std.specs.List.{flat_map, IsDistinct}
+use Rattle.std.specs.List.{IsDistinct}
 use Rattle.binary_payloads.specs.declared.enc.Enc.{Enc}
 use Rattle.term_forms.specs.Elements.{Element}
 use Rattle.term_forms.specs.Reading.{whole_of}
 use Rattle.term_forms.specs.ReadingForms.{form_of}
-use Rattle.cell_records.specs.declared.cells.CellRecord.{CellRecord}
+use Rattle.cell_records.specs.declared.cells.Kind.{Kind}
+use Rattle.cell_records.specs.declared.cells.Kind.TheVariants as kind
 use Rattle.cell_records.specs.declared.cells.Slot.{Slot}
 use Rattle.cell_records.specs.declared.cells.Slot.TheVariants as slot
 use Rattle.cell_records.specs.declared.cells.Span.{Span}
-use Rattle.heap_cells.specs.Cells.{Cell, elements_in, kind_of, addresses}
-use Rattle.heap_cells.specs.Targets.{target, slot_target}
-use Rattle.cell_records.specs.Order.{addresses_of, IsOrder}
-use Rattle.cell_records.specs.Slots.{slots_at}
+use Rattle.cell_records.specs.Order.{IsOrder}
+use Rattle.cell_records.specs.Resolving.{settled}
+use Rattle.heap_cells.specs.Cells.{Cell, addresses, weight_of}
+use Rattle.heap_cells.specs.Inner.Gathering.{AllStandIn, cells_in}
 use Rattle.heap_cells.specs.Inner.Parts.{IsPart}
+use Rattle.heap_graph.specs.declared.elements.Elements.{Elements}
+use Rattle.heap_graph.specs.declared.held.CellPart.{CellPart}
+use Rattle.heap_graph.specs.Elements.{Found, slots_of, IsOfSlots}
+use Rattle.heap_graph.specs.Held.{HeapLine, addresses_of, line_kind, parts_of, AreInLines}
 
-abbrev pub cell_in : List ℕ → Enc → CellRecord → Cell
-cell_in text enc r = record { address = r.address; form = form_of enc (slice_range text r.at (r.at + r.len)) }
+-- the cell of a part
+abbrev pub cell_in : List ℕ → Enc → CellPart → Cell
+cell_in text enc p = record { address = p.address; form = form_of enc (slice_range text p.at (p.at + p.size)) }
 
-abbrev pub cells_in : List ℕ → Enc → List CellRecord → List Cell
-cells_in text enc records = map (cell_in text enc) records
-
-abbrev pub elements_by : List ℕ → Enc → CellRecord → List Element
-elements_by text enc r = elements_in (cell_in text enc r).form
-
--- a record whose slots begin at this number
-pub record IsRecord (text : List ℕ) (seam : ℕ) (enc : Enc) (begin : ℕ) (r : CellRecord) : Type 0 where
-  pub first : r.first ≡ begin
-  pub part : IsPart seam (length text) r.at (r.at + r.len)
-  pub kind : r.kind ≡ option_map kind_of (cell_in text enc r).form
-
--- the slots of each record begin where those of the one before end
-abbrev pub AreLaid : List ℕ → ℕ → Enc → ℕ → List CellRecord → ℕ → Type 0
-AreLaid text seam enc begin [] upto = begin ≡ upto
-AreLaid text seam enc begin (r ∷ rs) upto =
-    IsRecord text seam enc begin r × AreLaid text seam enc (begin + length (elements_by text enc r)) rs upto
+abbrev pub cells_at : List ℕ → Enc → List CellPart → List Cell
+cells_at text enc parts = map (cell_in text enc) parts
 
 -- the element that a part of the text spells
 abbrev pub element_at : List ℕ → Span → Option Element
@@ -64,24 +54,29 @@ Spells text seam (slot.Imm span) e = IsSpan text seam span × (element_at text s
 Spells text seam (slot.Cell ix) e = Unit {0}
 Spells text seam (slot.Gone address) e = Unit {0}
 
--- each of the slots spells the element at its place
-abbrev pub AllSpell : List ℕ → ℕ → List Slot → List Element → Type 0
-AllSpell text seam slots es =
-    (k : ℕ) (s : Slot) (e : Element) → slice_get slots k ≡ Some s → slice_get es k ≡ Some e → Spells text seam s e
+-- whether a cell of this kind is a sub binary
+abbrev pub is_sub : Option Kind → Bool
+is_sub (Some kind.SubBin) = true
+is_sub other = false
 
--- the slots are those of the elements, with references leading to these cells
-pub record AreSlots (text : List ℕ) (seam : ℕ) (enc : Enc) (known : List Cell) (records : List CellRecord) (slots : List Slot) : Type 0 where
-  pub laid : AreLaid text seam enc 0 records (length slots)
-  pub targets : map slot_target slots ≡ map (target known) (flat_map (elements_by text enc) records)
-  pub spelled : (i : ℕ) (r : CellRecord) → slice_get records i ≡ Some r
-      → AllSpell text seam (slots_at records slots i) (elements_by text enc r)
+-- where the slots of the elements of a cell end: a sub binary has a slot for its address, which is no element
+abbrev pub row_end : Option Kind → ℕ → ℕ → ℕ
+row_end kind from upto = if is_sub kind then from else upto
 
 -- the whole of a heap
-pub record IsArena (text : List ℕ) (seam : ℕ) (enc : Enc) (records : List CellRecord) (slots : List Slot) (order : List ℕ) (own : ℕ) : Type 0 where
+pub record IsHeap (text : List ℕ) (seam : ℕ) (enc : Enc) (parts : List CellPart) (kinds : List (Option Kind)) (slots : List Slot) (order : List ℕ) (own : ℕ) : Type 0 where
+  pub lines : List HeapLine
+  pub fs : List Found
+  pub beside : Elements
+  pub of_slots : IsOfSlots beside
+  pub parts_are : parts ≡ parts_of beside 0 lines
+  pub kinds_are : kinds ≡ map line_kind lines
+  pub elements : AreInLines lines fs
+  pub slots_are : slots ≡ map (settled (addresses_of parts)) (slots_of fs)
+  pub stand : AllStandIn text seam enc lines
   pub heap_size : seam ≤ usual.section
   pub size : length text ≤ seam + usual.section
-  pub own_is : own ≤ length records
-  pub few : length records + length slots ≤ usual.dense
-  pub distinct : IsDistinct nat_eq (addresses (cells_in text enc records))
-  pub slots_are : AreSlots text seam enc (cells_in text enc records) records slots
-  pub order_is : IsOrder (addresses_of records) order
+  pub own_few : own ≤ length lines
+  pub weight : weight_of (cells_in lines) ≤ usual.dense
+  pub distinct : IsDistinct nat_eq (addresses (cells_in lines))
+  pub order_is : IsOrder (addresses_of parts) order

@@ -7,8 +7,8 @@ use Rattle.dump_io.specs.Lines.{Line}
 use Rattle.dump_sections.specs.Bodies.{body_in, body_start}
 use Rattle.dump_sections.specs.Sections.{Section}
 use Rattle.heap_skeleton.specs.declared.heap_sink.HeapSink.{HeapSink}
-use Rattle.heap_skeleton.specs.declared.held.Held.{Held}
-use Rattle.heap_skeleton.specs.Inner.Held.{HeapLine, Gains, IsHeld, heap_lines}
+use Rattle.heap_graph.specs.declared.held.Held.{Held}
+use Rattle.heap_graph.specs.Held.{HeapLine, Gains, IsHeld, heap_lines}
 
 -- between two states the heap lines among these were appended
 pub record TakesLines (old new : HeapSink) (lines : List Line) : Type 0 where

@@ -4,10 +4,10 @@ use Rattle.std.specs.Borrow.{Bor}
 use Rattle.cell_records.specs.declared.cells.Kind.{Kind}
 use Rattle.cell_records.specs.Order.{AreRanked}
 use Rattle.heap_skeleton.specs.declared.far.Far.{Far}
-use Rattle.heap_skeleton.specs.declared.leads.Lead.{Lead}
-use Rattle.heap_skeleton.specs.declared.leads.Lead.TheVariants as lead
-use Rattle.heap_skeleton.specs.declared.leads.Leads.{Leads}
-use Rattle.heap_skeleton.specs.Inner.Leads.{mark, marks, references}
+use Rattle.heap_graph.specs.declared.leads.Lead.{Lead}
+use Rattle.heap_graph.specs.declared.leads.Lead.TheVariants as lead
+use Rattle.heap_graph.specs.declared.leads.Leads.{Leads}
+use Rattle.heap_graph.specs.Leads.{mark, marks, references}
 use Rattle.heap_skeleton.specs.Inner.Targets.{lead_to, resolved}
 
 -- no element is far

@@ -1,12 +1,12 @@
 -- The skeleton that its parts stand for.
 use Rattle.std.specs.Prelude.{◌≡◌, ℕ, ◌<◌, ◌≤◌, List, [], ◌∷◌, length, map, slice_index_or, slice_range, Option, ◌^◌}
 use Rattle.cell_records.specs.declared.cells.Kind.{Kind}
-use Rattle.heap_skeleton.specs.declared.held.CellPart.{CellPart}
-use Rattle.heap_skeleton.specs.Inner.Leads.{cell_for}
+use Rattle.heap_graph.specs.declared.held.CellPart.{CellPart}
+use Rattle.heap_graph.specs.Leads.{cell_for}
 use Rattle.cell_records.specs.Order.{IsOrder}
 use Rattle.cell_graphs.specs.Graphs.{Graph, LeadsWithin, graph_of}
-use Rattle.heap_skeleton.specs.Inner.Held.{HeapLine, addresses_of, line_kind}
-use Rattle.cell_words.specs.Words.{words_in}
+use Rattle.heap_graph.specs.Held.{HeapLine, addresses_of, line_kind}
+use Rattle.heap_graph.specs.Words.{words_in}
 use Rattle.heap_skeleton.specs.Skeletons.{SkeletonMap}
 
 -- where the elements of the first of these parts begin; if there is none, where all elements end
@@ -30,9 +30,9 @@ abbrev pub shown_skeleton : ℕ → List CellPart → List (Option Kind) → Lis
 shown_skeleton own parts kinds leads = record {
   own = own;
   addresses = addresses_of parts;
-  lines = map (λ p. p.line) parts;
+  lines = map (λ p. p.at) parts;
   kinds = kinds;
-  words = map (λ p. p.words) parts;
+  words = map (λ p. p.size) parts;
   leads = leads_from parts leads;
 }
 

@@ -4,9 +4,9 @@ use Rattle.std.specs.Option.{option_and_then}
 use Rattle.cell_records.specs.declared.cells.Kind.{Kind}
 use Rattle.cell_records.specs.declared.cells.Kind.TheVariants as kind
 use Rattle.cell_records.specs.Order.{number_with}
-use Rattle.heap_skeleton.specs.declared.leads.Lead.{Lead}
-use Rattle.heap_skeleton.specs.declared.leads.Lead.TheVariants as lead
-use Rattle.heap_skeleton.specs.Inner.Leads.{nowhere}
+use Rattle.heap_graph.specs.declared.leads.Lead.{Lead}
+use Rattle.heap_graph.specs.declared.leads.Lead.TheVariants as lead
+use Rattle.heap_graph.specs.Leads.{nowhere}
 
 -- the cell is a heap binary
 abbrev pub is_bin : Option Kind → Bool

@@ -1,4 +1,4 @@
-use Rattle.std.proofs.Common.{ℕ, ◌-◌}
+use Rattle.std.proofs.Common.{◌-◌}
 use Rattle.cell_records.specs.Inner.Places.{IsRange}
 use Rattle.cell_records.proofs.search.first_between.Given as goal
 

@@ -1,4 +1,4 @@
-use Rattle.std.proofs.Common.{ℕ, ◌-◌, ◌<◌, ◌≤◌, length}
+use Rattle.std.proofs.Common.{◌-◌, ◌<◌, ◌≤◌, length}
 use Rattle.cell_records.specs.Inner.Places.{AreBelow}
 use Rattle.cell_records.proofs.search.range_from.Given as goal
 

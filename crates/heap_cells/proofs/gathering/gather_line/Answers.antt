@@ -1,32 +1,22 @@
-use Rattle.std.proofs.Common.{◌≡◌, ◌+◌, ◌-◌, ◌∷◌, ◌++◌, List, length, sym, ◌∙◌, ap, subst}
-use Rattle.std.specs.Prelude.{slice_range}
-use Rattle.std.specs.List.{filter_map}
-use Rattle.std.proofs.lemmas.Result.{IfOk-weaker}
+use Rattle.std.proofs.Common.{refl, sym, arith}
 use Rattle.field_lines.specs.Shown.{shown_line}
-use Rattle.heap_cells.specs.Cells.{Cell, spelled_cell, cell_of}
-use Rattle.heap_cells.specs.Inner.Gathering.{Leads}
-use Rattle.heap_cells.specs.Inner.Texts.{text_of}
-use Rattle.heap_cells.proofs.GatheringFacts.{behind-colon, line-cells}
+use Rattle.heap_cells.proofs.GatheringFacts.{Gathers-line, Gathers-no-line, spelled-few}
 use Rattle.heap_cells.proofs.gathering.gather_line.Goals as goal
 
-pub gather_cell-requires-clause-spelled : goal.gather_cell-requires-clause-spelled
-gather_cell-requires-clause-spelled c =
-    let line = shown_line c.args.line.now in
-    sym (behind-colon (text_of c.args.texts.now) (c.args.base + c.args.line.now.at) line.text c.in-Some.address c.in-Some.spelled.now c.requires.line.stands c.in-Some.ensures.found)
+pub returns-in_default-clause-gathers : goal.returns-in_default-clause-gathers
+returns-in_default-clause-gathers c = Gathers-no-line c.args.texts.now c.args.g.now (shown_line c.args.line.now) (sym c.in_default.ensures.exact)
 
-pub returns-clause-leads : goal.returns-clause-leads
-returns-clause-leads c =
-    let texts = c.args.texts.now in
-    let text = text_of texts in
-    let line = shown_line c.args.line.now in
-    let spelled = c.in-Some.spelled.now in
-    let stands = behind-colon text (c.args.base + c.args.line.now.at) line.text c.in-Some.address spelled c.requires.line.stands c.in-Some.ensures.found in
-    IfOk-weaker c.gather_cell.result _ _
-    (λ u leads rest more all before.
-    let cells : filter_map (cell_of texts.enc) (line ∷ rest)
-    ≡ spelled_cell texts.enc (c.in-Some.address, slice_range text (c.args.base + c.args.line.now.at + length line.text - length spelled) (c.args.base + c.args.line.now.at + length line.text))
-    ∷ filter_map (cell_of texts.enc) rest =
-    line-cells texts.enc line c.in-Some.address spelled rest c.in-Some.ensures.exact
-    ∙ ap (λ l. spelled_cell texts.enc (c.in-Some.address, l) ∷ filter_map (cell_of texts.enc) rest) (sym stands) in
-    leads (filter_map (cell_of texts.enc) rest ++ more) all (subst (λ (l : List Cell). Leads text texts.enc c.args.g.now (l ++ more) all) cells before))
-    c.gather_cell.ensures.leads
+pub returns-clause-gathers : goal.returns-clause-gathers
+returns-clause-gathers c =
+    Gathers-line c.args.texts.now c.args.g.now c.add_weight.new.g c.gather_cell.new.held (shown_line c.args.line.now) c.args.base _ _ c.in-Some.address c.in_ok-count.count c.in-Some.spelled.now
+    c.requires.line c.in-Some.ensures.found c.in-Some.ensures.exact refl refl c.in_ok-count.ensures.gains c.in_ok-count.ensures.count c.add_weight.ensures.weight c.add_weight.ensures.held
+
+pub add_weight-requires-clause-room : goal.add_weight-requires-clause-room
+add_weight-requires-clause-room c =
+    let few = spelled-few c.args.texts.now.enc c.in-Some.spelled.now (λ f. (c.form_is_read.ensures.found c.in-Some.spelled.now f).0) in
+    omega (arith, few, c.in_ok-count.ensures.count, c.in-Some.ensures.shorter, c.requires.room)
+
+pub returns-clause-weight : goal.returns-clause-weight
+returns-clause-weight c =
+    let few = spelled-few c.args.texts.now.enc c.in-Some.spelled.now (λ f. (c.form_is_read.ensures.found c.in-Some.spelled.now f).0) in
+    omega (arith, few, c.in_ok-count.ensures.count, c.in-Some.ensures.shorter, c.add_weight.ensures.weight)

@@ -1,13 +1,11 @@
-use Rattle.std.proofs.Common.{◌++◌, ◌∙◌, List, length, ap, subst, arith}
+use Rattle.std.proofs.Common.{length, ◌∙◌, ap, subst, arith}
 use Rattle.std.specs.Prelude.{All}
-use Rattle.std.specs.List.{filter_map}
 use Rattle.std.proofs.lemmas.List.Elements.{All-tail, All-head}
-use Rattle.field_lines.specs.Lines.{TextLine, IsPart}
+use Rattle.field_lines.specs.Lines.{IsPart}
 use Rattle.field_lines.specs.Shown.{shown_line}
-use Rattle.heap_cells.specs.Cells.{cell_of}
-use Rattle.heap_cells.specs.Inner.Gathering.{Leads}
+use Rattle.heap_cells.specs.Cells.{line_cells}
 use Rattle.heap_cells.specs.Inner.Texts.{text_of, seam_of}
-use Rattle.heap_cells.proofs.GatheringFacts.{line-at, line-few}
+use Rattle.heap_cells.proofs.GatheringFacts.{front-more, line-at, line-few}
 use Rattle.heap_cells.proofs.gathering.gather_lines.Goals as goal
 
 pub gather_line-requires-clause-line : goal.gather_line-requires-clause-line
@@ -30,8 +28,7 @@ loop-line-preserved c =
       parts = All-tail (IsPart body) line c.next.new.self parts;
       limit = c.in_ok-gather_line.ensures.limit ∙ c.loop-line.invariant.limit;
       weight = let before = c.loop-line.invariant.weight in let more = c.in_ok-gather_line.ensures.weight in omega (arith, before, more, short, count, c.requires.few);
-      gathered = c.in_ok-gather_line.ensures.gathered;
-      leads = λ rest all before.
-          c.in_ok-gather_line.ensures.leads c.next.new.self rest all
-          (subst (λ (l : List TextLine). Leads (text_of texts) texts.enc c.loop-line.g (filter_map (cell_of texts.enc) l ++ rest) all) steps (c.loop-line.invariant.leads rest all before));
+      small = c.in_ok-gather_line.ensures.small;
+      gathers = front-more texts c.args.g.now c.loop-line.g c.gather_line.new.g (line_cells texts.enc body) _ c.next.new.self line steps c.loop-line.invariant.limit c.loop-line.invariant.gathers
+          c.in_ok-gather_line.ensures.gathers;
     }

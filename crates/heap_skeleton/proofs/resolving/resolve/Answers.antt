@@ -1,5 +1,5 @@
 use Rattle.std.proofs.Common.{false, true, ◌∙◌}
-use Rattle.heap_skeleton.specs.Inner.Held.{addresses_of}
+use Rattle.heap_graph.specs.Held.{addresses_of}
 use Rattle.heap_skeleton.proofs.ResolveFacts.{all-resolved, far-moved}
 use Rattle.heap_skeleton.proofs.resolving.resolve.Goals as goal
 

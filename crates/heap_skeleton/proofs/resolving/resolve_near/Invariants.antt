@@ -1,7 +1,7 @@
 use Rattle.std.proofs.Common.{◌≡◌, List, length}
-use Rattle.heap_skeleton.specs.declared.leads.Lead.{Lead}
-use Rattle.heap_skeleton.specs.Inner.Held.{addresses_of}
-use Rattle.heap_skeleton.specs.Inner.Leads.{marks, references}
+use Rattle.heap_graph.specs.declared.leads.Lead.{Lead}
+use Rattle.heap_graph.specs.Held.{addresses_of}
+use Rattle.heap_graph.specs.Leads.{marks, references}
 use Rattle.heap_skeleton.specs.Inner.Resolving.{IsResolving}
 use Rattle.heap_skeleton.proofs.resolving.resolve_near.Given as goal
 

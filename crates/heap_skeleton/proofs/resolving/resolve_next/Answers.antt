@@ -1,6 +1,6 @@
 use Rattle.std.proofs.Common.{◌+◌, refl, sym, ◌∙◌, ap, subst}
 use Rattle.std.specs.Prelude.{Some}
-use Rattle.heap_skeleton.specs.Inner.Held.{addresses_of}
+use Rattle.heap_graph.specs.Held.{addresses_of}
 use Rattle.heap_skeleton.specs.Inner.Resolving.{IsResolving}
 use Rattle.heap_skeleton.specs.Inner.Targets.{resolved}
 use Rattle.heap_skeleton.proofs.ResolveFacts.{address-read, found-resolved, resolving-far, resolving-set, resolving-skip}

@@ -1,20 +1,19 @@
-use Rattle.std.proofs.Common.{subst, arith}
-use Rattle.std.proofs.lemmas.List.{length-map}
-use Rattle.heap_cells.specs.HeapMap.{IsBounded}
-use Rattle.heap_cells.specs.Inner.Texts.{text_of, seam_of}
-use Rattle.heap_cells.specs.Inner.Records.{cell_in}
-use Rattle.heap_cells.proofs.RecordFacts.{weight-slots}
+use Rattle.std.proofs.Common.{ap, arith}
+use Rattle.heap_cells.specs.HeapMap.{HeapMap}
+use Rattle.heap_cells.proofs.HeapFacts as facts
 use Rattle.heap_cells.proofs.heap.Heap.cells.Goals as goal
+
+pub overflow_cast-result : goal.overflow_cast-result
+overflow_cast-result c =
+    let h = c.self.inside in
+    omega (arith, c.len.ensures, h.parts.ok.0, facts.count-parts h c.args.self.now c.self.invariant c.self.view_is, facts.cells-few h c.args.self.now c.self.invariant c.self.view_is)
 
 pub returns-clause-bounded : goal.returns-clause-bounded
 returns-clause-bounded c =
     let h = c.self.inside in
-    let i = c.self.invariant in
-    let counts = length-map h.arena.cells.items (cell_in (text_of h.texts) h.texts.enc) in
-    let weighs = weight-slots (text_of h.texts) (seam_of h.texts) h.texts.enc _ h.arena.cells.items h.arena.slots.items i.slots_are in
-    let bounded : IsBounded (Rattle.heap_cells.specs.contracts.heap.Heap.the_view h) = record {
-      distinct = i.distinct;
-      weight = omega (arith, i.few, weighs);
-      own = omega (arith, i.own_is, counts);
-    } in
-    subst IsBounded c.self.view_is bounded
+    let count = facts.count-lines h c.args.self.now c.self.invariant c.self.view_is in
+    record {
+      distinct = facts.distinct-are h c.args.self.now c.self.invariant c.self.view_is;
+      weight = facts.weight-are h c.args.self.now c.self.invariant c.self.view_is;
+      own = omega (arith, count, ap (λ (m : HeapMap). m.own) c.self.view_is, c.self.invariant.own_few);
+    }

@@ -1,18 +1,15 @@
-use Rattle.std.proofs.Common.{◌∙◌, ap}
-use Rattle.std.specs.Option.{option_map}
-use Rattle.heap_cells.specs.Cells.{kind_of}
-use Rattle.heap_cells.specs.HeapMap.{HeapMap}
+use Rattle.std.proofs.Common.{◌≡◌, get_or, subst, arith}
 use Rattle.heap_cells.specs.Targets.{number}
-use Rattle.heap_cells.specs.Inner.Texts.{text_of, seam_of}
-use Rattle.heap_cells.proofs.RecordFacts.{read-from, form-of}
+use Rattle.heap_cells.proofs.HeapFacts as facts
 use Rattle.heap_cells.proofs.heap.Heap.kind.Goals as goal
+
+pub index-requires : goal.index-requires
+index-requires c =
+    let h = c.self.inside in
+    omega (arith, c.requires, facts.count-kinds h c.args.self.now c.self.invariant c.self.view_is, c.number.ensures, h.kinds.ok.0)
 
 pub returns : goal.returns
 returns c =
     let h = c.self.inside in
-    let text = text_of h.texts in
-    let cells = ap (λ (map : HeapMap). map.cells) c.self.view_is in
-    let i = number c.args.ix in
-    let read = read-from text (seam_of h.texts) h.texts.enc h.arena.cells.items c.args.self.now.cells _ i c.number.result c.index.result.now
-    c.self.invariant.slots_are.laid cells c.number.ensures c.requires c.index.ensures in
-    read.is_record.kind ∙ ap (option_map kind_of) (form-of text h.texts.enc h.arena.cells.items c.args.self.now.cells i c.index.result.now cells read.stands)
+    facts.kind-of h c.args.self.now c.self.invariant c.self.view_is (number c.args.ix) c.requires c.index.result.now
+    (subst (λ n. c.index.result.now ≡ get_or h.kinds.items n c.index.result.now) c.number.ensures c.index.ensures)

@@ -2,7 +2,7 @@ use Rattle.std.proofs.Common.{◌≡◌, ◌<◌, ◌==◌, length, sym, ◌∙�
 use Rattle.std.specs.Prelude.{position, IfSome}
 use Rattle.dump_io.specs.Laws.Lists.{position-within}
 use Rattle.cell_records.specs.Order.{number_with}
-use Rattle.heap_skeleton.specs.Inner.Held.{addresses_of}
+use Rattle.heap_graph.specs.Held.{addresses_of}
 use Rattle.heap_skeleton.specs.Skeletons.{SkeletonMap}
 use Rattle.heap_skeleton.proofs.ShownFacts.{leads-addresses}
 use Rattle.heap_skeleton.proofs.skeleton.Skeleton.find.Goals as goal

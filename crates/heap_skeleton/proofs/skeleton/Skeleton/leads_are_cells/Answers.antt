@@ -2,7 +2,7 @@ use Rattle.std.proofs.Common.{length, sym, ◌∙◌, ap, subst}
 use Rattle.std.proofs.lemmas.List.{length-map}
 use Rattle.cell_graphs.specs.Graphs.{LeadsWithin}
 use Rattle.heap_skeleton.specs.Skeletons.{SkeletonMap}
-use Rattle.heap_skeleton.specs.declared.held.CellPart.{CellPart}
+use Rattle.heap_graph.specs.declared.held.CellPart.{CellPart}
 use Rattle.heap_skeleton.proofs.ShownFacts.{cells-shown}
 use Rattle.heap_skeleton.proofs.skeleton.Skeleton.leads_are_cells.Goals as goal
 

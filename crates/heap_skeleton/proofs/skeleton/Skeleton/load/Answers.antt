@@ -1,13 +1,24 @@
 use Rattle.std.proofs.Common.{◌++◌, [], refl, ◌∙◌, ap₂}
 use Rattle.dump_sections.specs.Bodies.{section_in}
 use Rattle.heap_cells.specs.Loading.{enc_of}
-use Rattle.heap_skeleton.specs.Inner.Held.{first_lines}
+use Rattle.heap_graph.specs.Held.{first_lines}
 use Rattle.heap_skeleton.specs.Skeletons.{skeleton_in}
+use Rattle.heap_graph.specs.Laws.Elements.{alike-leads}
 use Rattle.heap_skeleton.proofs.LoadFacts.{own-few, skeleton-sections}
 use Rattle.heap_skeleton.proofs.skeleton.Skeleton.load.Goals as goal
 
 pub settle-requires-clause-own : goal.settle-requires-clause-own
 settle-requires-clause-own g c = own-few _ _ _ _ c.in_ok-held.held c.in_ok-held.own c.in_ok-held.ensures.holds
+
+pub skeleton_of-requires-clause-holds : goal.skeleton_of-requires-clause-holds
+skeleton_of-requires-clause-holds g c =
+    let holds = c.in_ok-held.ensures.holds in
+    let all = holds.heap_lines ++ holds.literal_lines in
+    record { lines = first_lines [] all; held_is = c.in_ok-settle.ensures.kept.held_is all holds.held_is }
+
+pub skeleton_of-requires-clause-leads : goal.skeleton_of-requires-clause-leads
+skeleton_of-requires-clause-leads g c =
+    alike-leads c.in_ok-held.held.elements c.in_ok-settle.field-0.settled.held.elements c.in_ok-settle.ensures.kept.alike c.in_ok-held.ensures.leads
 
 pub returns-clause-skeleton : goal.returns-clause-skeleton
 returns-clause-skeleton g c = λ dump is.

@@ -1,6 +1,6 @@
 use Rattle.std.proofs.Common.{◌≡◌, [], length, map, Some, slice_index_or, sym, ◌∙◌, ap, ap₂, arith}
 use Rattle.std.specs.Prelude.{slice_range}
-use Rattle.heap_skeleton.specs.Inner.Leads.{cell_for}
+use Rattle.heap_graph.specs.Leads.{cell_for}
 use Rattle.heap_skeleton.specs.Inner.Shown.{leads_from}
 use Rattle.heap_skeleton.specs.Skeletons.{SkeletonMap}
 use Rattle.heap_skeleton.proofs.ShownFacts.{cells-shown, lead-at}

@@ -1,7 +1,7 @@
 use Rattle.std.proofs.Common.{false, ◌∙◌, sym, ap}
 use Rattle.std.specs.Option.{option_map}
 use Rattle.std.proofs.lemmas.Option.{get_or_from_slice_get, slice_get-map}
-use Rattle.cell_words.specs.Binaries.{binaries_among, is_binary_kind}
+use Rattle.heap_graph.specs.Binaries.{binaries_among, is_binary_kind}
 use Rattle.heap_skeleton.proofs.skeleton.SkeletonWeighed.is_binary.Goals as goal
 
 pub returns : goal.returns

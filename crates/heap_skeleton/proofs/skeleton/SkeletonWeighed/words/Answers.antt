@@ -1,5 +1,5 @@
 use Rattle.std.proofs.Common.{◌∙◌, ap, arith}
-use Rattle.cell_words.specs.Words.{words_at}
+use Rattle.heap_graph.specs.Words.{words_at}
 use Rattle.heap_skeleton.specs.Skeletons.{SkeletonMap}
 use Rattle.heap_skeleton.proofs.ShownFacts.{cells-shown, words-part}
 use Rattle.heap_skeleton.proofs.skeleton.SkeletonWeighed.words.Goals as goal

@@ -1,4 +1,0 @@
-pub mod Binaries
-pub mod Kinds
-pub mod Laws
-pub mod Words

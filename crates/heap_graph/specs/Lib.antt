@@ -1,0 +1,10 @@
+pub mod Binaries
+pub mod Cells
+pub mod Elements
+pub mod Held
+pub mod Keeping
+pub mod Kinds
+pub mod Laws
+pub mod Leads
+pub mod Reading
+pub mod Words
