@@ -1,14 +1,13 @@
 -- Parts whose labels are keys.
-use Rattle.std.proofs.Common.{◌≡◌, ℕ, zero, suc, ◌+◌, ◌<◌, Bool, true, false, if◌then◌else◌, List, [], ◌∷◌, ◌++◌, length, map, take, Option, None, Some, refl, sym, ◌∙◌, ap, ap₂, subst, append_assoc, arith, length-append}
-use Rattle.std.specs.Prelude.{◌||◌, All, codes, filter, option_map, slice_get, slice_index_or}
-use Rattle.std.specs.List.{cons_option, enumerate_from, filter_map, list_any}
-use Rattle.std.specs.Option.{option_and_then, option_map_or}
+use Rattle.std.proofs.Common.{◌≡◌, ℕ, zero, suc, ◌+◌, ◌<◌, List, [], ◌∷◌, ◌++◌, length, map, take, Option, None, Some, refl, sym, ◌∙◌, ap, ap₂, subst, append_assoc, arith, length-append}
+use Rattle.std.specs.Prelude.{All, option_map, slice_get, slice_index_or}
+use Rattle.std.specs.List.{enumerate_from}
 use Rattle.std.proofs.lemmas.List.{get_or-map, length-map, map-append, take-map}
 use Rattle.std.proofs.lemmas.Option.{get_or_from_slice_get, none-some, same_Some, slice_get-map, slice_get_within}
 use Rattle.dump_io.specs.Laws.Lists.{take-at}
 use Rattle.std.proofs.lemmas.List.Elements.{All-head, All-tail}
-use Rattle.cell_parts.specs.Parts.{ArePartsOf, CellPart, CellParts, PartElement, is_for, part_at, parts_made}
-use Rattle.cell_words.specs.Binaries.{binaries_among}
+use Rattle.cell_parts.specs.Parts.{ArePartsOf, CellPart, CellParts, PartElement, parts_made}
+use Rattle.heap_graph.specs.Binaries.{binaries_among}
 use Rattle.heap_cells.specs.Cells.{Cell}
 use Rattle.dump_sections.specs.Index.{Contents}
 use Rattle.heap_skeleton.specs.Skeletons.{SkeletonMap, skeleton_for}
@@ -17,71 +16,22 @@ use Rattle.heap_weights.specs.Shares.{weights_from}
 use Rattle.heap_weights.specs.declared.shares.Shares.{Shares}
 use Rattle.heap_weights.specs.declared.shares.Weight.{Weight}
 use Rattle.tuple_fronts.specs.Fronts.{cells_for}
-use Rattle.tuple_fronts.specs.KeyPlaces.{key_place}
-use Rattle.tuple_fronts.specs.Keys.{key_label, place_shape}
-use Rattle.tuple_fronts.specs.Laws.Keys.{labels-are}
+use Rattle.part_keys.specs.KeyPlaces.{key_place}
+use Rattle.part_keys.specs.Keys.{key_label, place_shape}
+use Rattle.part_keys.specs.Laws.Keys.{labels-are}
 use Rattle.part_weights.specs.Weights.{first_parts, keyed, row_of, rows_of, weighing, with_key}
-use Rattle.part_weights.specs.Inner.Held.{sorted_parts}
-use Rattle.part_weights.specs.Inner.Shown.{AreParts, held_place, labelled_row, labelled_rows, no_part, part_place, row_at, rows_at, weighing_with}
+use Rattle.part_weights.specs.Held.{sorted_parts}
+use Rattle.part_weights.specs.Held.{held_place, no_part, row_at, rows_at, under_key}
+use Rattle.part_weights.specs.Inner.Shown.{AreParts, labelled_row, labelled_rows, weighing_with}
 use Rattle.part_weights.specs.declared.held_parts.HeldPart.{HeldPart}
-use Rattle.part_weights.proofs.HeldFacts.{rows-sorted}
+use Rattle.part_weights.specs.Laws.Keyed.{parts-keyed}
+use Rattle.part_weights.specs.Laws.Rows.{rows-sorted}
 
 module _ (cells : List Cell) (cell : ℕ) where
-  -- an element with its key, and a part with that of its first element
-  abbrev keyed_one : PartElement → PartElement
-  keyed_one e = with_key cells cell e
+  abbrev under : CellPart → CellPart
+  under part = under_key cells cell part
 
-  abbrev under_key : CellPart → CellPart
-  under_key part = record part { label = key_label cells (part_place cell part) }
-
-  -- ---- labels change no part
-
-  any-keyed : (c : ℕ) (es : List PartElement) → list_any (is_for c) (map keyed_one es) ≡ list_any (is_for c) es
-  any-keyed c [] = refl
-  any-keyed c (e ∷ es) = ap (λ b. is_for c e || b) (any-keyed c es)
-
-  count-keyed : (c : ℕ) (es : List PartElement) → length (filter (is_for c) (map keyed_one es)) ≡ length (filter (is_for c) es)
-  count-keyed c [] = refl
-  count-keyed c (e ∷ es) = by (is_for c e) (count-keyed c es)
-    where
-      by : (b : Bool) → length (filter (is_for c) (map keyed_one es)) ≡ length (filter (is_for c) es)
-          → length (if b then keyed_one e ∷ filter (is_for c) (map keyed_one es) else filter (is_for c) (map keyed_one es)) ≡ length (if b then e ∷ filter (is_for c) es else filter (is_for c) es)
-      by true later = ap suc later
-      by false later = later
-
-  abbrev made_of : Bool → ℕ → ℕ → ℕ → List ℕ → Option CellPart
-  made_of any c count at label = if any then None else Some (record { cell = c; elements = count; at = at; label = label })
-
-  part-keyed : (es : List PartElement) (n : ℕ) (e : PartElement) → part_at (map keyed_one es) (n, keyed_one e) ≡ option_map under_key (part_at es (n, e))
-  part-keyed es n e = by e.lead
-    where
-      made : (b : Bool) (c count : ℕ) → made_of b c count e.at (key_label cells (record { cell = cell; at = e.at; part = c })) ≡ option_map under_key (made_of b c count e.at e.label)
-      made true c count = refl
-      made false c count = refl
-
-      by : (lead : Option ℕ)
-          → option_and_then (λ c. made_of (list_any (is_for c) (take n (map keyed_one es))) c (length (filter (is_for c) (map keyed_one es))) e.at
-          (option_map_or (λ k. key_label cells (record { cell = cell; at = e.at; part = k })) lead (codes "-"))) lead
-          ≡ option_map under_key (option_and_then (λ c. made_of (list_any (is_for c) (take n es)) c (length (filter (is_for c) es)) e.at e.label) lead)
-      by None = refl
-      by (Some c) =
-          ap₂ (λ b count. made_of b c count e.at (key_label cells (record { cell = cell; at = e.at; part = c })))
-          (ap (list_any (is_for c)) (take-map keyed_one n es) ∙ any-keyed c (take n es)) (count-keyed c es)
-          ∙ made (list_any (is_for c) (take n es)) c (length (filter (is_for c) es))
-
-  cons-keyed : (o : Option CellPart) (ps : List CellPart) → cons_option (option_map under_key o) (map under_key ps) ≡ map under_key (cons_option o ps)
-  cons-keyed None ps = refl
-  cons-keyed (Some p) ps = refl
-
-  parts-from : (es rest : List PartElement) (n : ℕ) → filter_map (part_at (map keyed_one es)) (enumerate_from n (map keyed_one rest)) ≡ map under_key (filter_map (part_at es) (enumerate_from n rest))
-  parts-from es [] n = refl
-  parts-from es (e ∷ rest) n =
-      ap₂ cons_option (part-keyed es n e) (parts-from es rest (n + 1)) ∙ cons-keyed (part_at es (n, e)) (filter_map (part_at es) (enumerate_from (n + 1) rest))
-
-  pub parts-keyed : (es : List PartElement) → parts_made (keyed cells cell es) ≡ map under_key (parts_made es)
-  parts-keyed es = parts-from es es 0
-
-  same-cells : (ps : List CellPart) → map (λ (p : CellPart). p.cell) (map under_key ps) ≡ map (λ (p : CellPart). p.cell) ps
+  same-cells : (ps : List CellPart) → map (λ (p : CellPart). p.cell) (map under ps) ≡ map (λ (p : CellPart). p.cell) ps
   same-cells [] = refl
   same-cells (p ∷ ps) = ap (λ l. p.cell ∷ l) (same-cells ps)
 
@@ -95,16 +45,16 @@ module _ (cells : List Cell) (cell : ℕ) where
   at-front (x ∷ front) rest text = at-front front rest text
 
   rows-behind : (heap : SkeletonMap) (parts : List CellPart) (front : List (List ℕ)) (held : List HeldPart) → All (λ h. h.part < length parts) held
-      → map (labelled_row heap parts (Some (front ++ map (text_of parts) held))) (enumerate_from (length front) held) ≡ rows_at heap (map under_key parts) held
+      → map (labelled_row heap parts (Some (front ++ map (text_of parts) held))) (enumerate_from (length front) held) ≡ rows_at heap (map under parts) held
   rows-behind heap parts front [] within = refl
   rows-behind heap parts front (h ∷ held) within =
       let text = text_of parts h in
       let rest = map (text_of parts) held in
       let inside : h.part < length parts = All-head (λ h. h.part < length parts) h held within in
       let count : length (front ++ text ∷ []) ≡ length front + 1 = omega (arith, length-append front (text ∷ [])) in
-      let row : labelled_row heap parts (Some (front ++ text ∷ rest)) (length front, h) ≡ row_at heap (map under_key parts) h =
+      let row : labelled_row heap parts (Some (front ++ text ∷ rest)) (length front, h) ≡ row_at heap (map under parts) h =
       ap (λ l. record (row_at heap parts h) { label = l }) (at-front front rest text)
-      ∙ sym (ap (λ p. row_of heap (p, h.weight)) (get_or-map under_key parts h.part no_part no_part inside)) in
+      ∙ sym (ap (λ p. row_of heap (p, h.weight)) (get_or-map under parts h.part no_part no_part inside)) in
       ap₂ (λ a b. a ∷ b) row
       (ap (λ l. map (labelled_row heap parts (Some l)) (enumerate_from (length front + 1) held)) (sym (append_assoc front (text ∷ []) rest))
       ∙ ap (λ n. map (labelled_row heap parts (Some ((front ++ text ∷ []) ++ rest))) (enumerate_from n held)) (sym count)
@@ -118,12 +68,12 @@ module _ (cells : List Cell) (cell : ℕ) where
       → weighing_with heap parts held (Some texts) within shares.shared shares.reached shares.own ≡ first_parts most (weighing heap within (keyed cells cell elements))
   keyed-kept heap parts shares held texts within most elements of are size held_is inside texts_are =
       let ps = parts.parts in
-      let qs = map under_key ps in
+      let qs = map under ps in
       let alone = shares.alone.items in
       let binaries = binaries_among heap.kinds in
       let holders = holder_of heap.leads (map (λ (p : CellPart). p.cell) ps) in
-      let made : parts_made (keyed cells cell elements) ≡ qs = parts-keyed elements ∙ ap (map under_key) (sym of.parts) in
-      let count : length qs ≡ length ps = length-map ps under_key in
+      let made : parts_made (keyed cells cell elements) ≡ qs = parts-keyed cells cell elements ∙ ap (map under) (sym of.parts) in
+      let count : length qs ≡ length ps = length-map ps under in
       let alone_is : alone ≡ weights_from 0 heap.words binaries holders heap.own (length ps) =
       are.alone ∙ ap (weights_from 0 heap.words binaries holders heap.own) (length-map ps (λ (p : CellPart). p.cell)) in
       let rows : labelled_rows heap ps (Some texts) held ≡ take most (rows_of heap qs (weights_from 0 heap.words binaries holders heap.own (length qs))) =
@@ -133,7 +83,7 @@ module _ (cells : List Cell) (cell : ℕ) where
       ∙ sym (take-map (row_at heap qs) most (sorted_parts alone))
       ∙ ap (take most) (rows-sorted heap qs alone (count ∙ size))
       ∙ ap (λ l. take most (rows_of heap qs l)) (alone_is ∙ ap (weights_from 0 heap.words binaries holders heap.own) (sym count)) in
-      let total : length (keyed cells cell elements) ≡ length elements = length-map elements keyed_one in
+      let total : length (keyed cells cell elements) ≡ length elements = length-map elements (with_key cells cell) in
       rw (rows, are.shared, are.reached, are.own, of.count, made, same-cells ps, total, count) refl
 
 -- ---- rows with the labels of their parts

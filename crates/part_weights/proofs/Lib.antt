@@ -1,3 +1,2 @@
-pub mod HeldFacts
 pub mod KeyedFacts
 pub mod ShareFacts

@@ -6,7 +6,7 @@ use Rattle.std.proofs.lemmas.List.{length-map}
 use Rattle.cell_graphs.specs.Counts.{count_below, one_if}
 use Rattle.cell_graphs.specs.Graphs.{Graph}
 use Rattle.cell_parts.specs.Parts.{ArePartsOf, CellPart, CellParts, PartElement}
-use Rattle.cell_words.specs.Binaries.{binaries_among, binary_at}
+use Rattle.heap_graph.specs.Binaries.{binaries_among, binary_at}
 use Rattle.heap_cells.specs.Cells.{Cell}
 use Rattle.heap_skeleton.specs.Skeletons.{SkeletonMap}
 use Rattle.heap_weights.specs.Holders.{holder_among, is_held}
@@ -16,9 +16,9 @@ use Rattle.heap_weights.specs.declared.holders.Holder.{Holder}
 use Rattle.heap_weights.specs.declared.shares.Shares.{Shares}
 use Rattle.heap_weights.specs.declared.shares.Weight.{Weight}
 use Rattle.part_weights.specs.Weights.{cell_weighing, rows_of, weighing}
-use Rattle.part_weights.specs.Inner.Held.{sorted_parts}
+use Rattle.part_weights.specs.Held.{sorted_parts}
 use Rattle.part_weights.specs.Inner.Shown.{AreParts, labelled_rows, weighing_with}
-use Rattle.part_weights.proofs.HeldFacts.{rows-sorted}
+use Rattle.part_weights.specs.Laws.Rows.{rows-sorted}
 use Rattle.part_weights.proofs.KeyedFacts.{plain-rows}
 
 -- ---- one part

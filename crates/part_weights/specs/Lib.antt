@@ -1,3 +1,5 @@
+pub mod Held
 pub mod Inner
+pub mod Laws
 pub mod Shown
 pub mod Weights

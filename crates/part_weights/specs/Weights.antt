@@ -5,7 +5,7 @@ use Rattle.std.specs.List.{position, zip}
 use Rattle.cell_parts.specs.Elements.{cell_elements}
 use Rattle.cell_parts.specs.Parts.{CellPart, PartElement, parts_made}
 use Rattle.cell_records.specs.declared.cells.Kind.{Kind}
-use Rattle.cell_words.specs.Binaries.{binaries_among}
+use Rattle.heap_graph.specs.Binaries.{binaries_among}
 use Rattle.dump_sections.specs.Index.{Contents, sections_in}
 use Rattle.heap_cells.specs.Cells.{Cell}
 use Rattle.heap_skeleton.specs.Skeletons.{SkeletonMap, skeleton_for}
@@ -17,7 +17,7 @@ use Rattle.heap_weights.specs.declared.shares.Weight.{Weight}
 use Rattle.text_groups.specs.Sorting.{most_first}
 use Rattle.root_parts.specs.Roots.{all_roots, roots_elements}
 use Rattle.tuple_fronts.specs.Fronts.{cells_for}
-use Rattle.tuple_fronts.specs.Keys.{key_label}
+use Rattle.part_keys.specs.Keys.{key_label}
 
 -- a part: the words and the number of the cells that it alone holds, how many of these refer to binaries, the kind and the address of
 -- its cell, how many elements lead to it, and where the first of them stands

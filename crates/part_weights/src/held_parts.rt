@@ -1,7 +1,7 @@
 // The parts that alone hold cells.
 ghost use Rattle.std.specs.Prelude.{◌≡◌, ◌<◌, ◌++◌, length, take, All, IfOk, OnOk};
 ghost use Rattle.std.specs.Option.{option_to_list};
-ghost use Rattle.part_weights.specs.Inner.Held.{held_part, held_parts, sorted_parts};
+ghost use Rattle.part_weights.specs.Held.{held_part, held_parts, sorted_parts};
 
 use heap_weights::Weight;
 use std::alloc::{AllocError, Global};
@@ -9,11 +9,11 @@ use text_groups::{Measured, sort_most_first};
 
 /// A part that alone holds a cell.
 #[derive(Clone, Copy)]
-pub(crate) struct HeldPart {
+pub struct HeldPart {
     /// The number of the part.
-    pub(crate) part: usize,
+    pub part: usize,
     /// What the part alone holds.
-    pub(crate) weight: Weight,
+    pub weight: Weight,
 }
 
 impl Measured for HeldPart {
@@ -47,11 +47,7 @@ fn held_parts(alloc: Global, alone: &[Weight]) -> Result<Vec<HeldPart>, AllocErr
 }
 
 /// The first of the parts that alone hold a cell, at most `most`, those with the most words first.
-pub(crate) fn first_held(
-    alloc: Global,
-    alone: &[Weight],
-    most: usize,
-) -> Result<Vec<HeldPart>, AllocError>
+pub fn first_held(alloc: Global, alone: &[Weight], most: usize) -> Result<Vec<HeldPart>, AllocError>
     ensures value { IfOk result (λ held. held.items ≡ take most (sorted_parts alone.now)) }
     ensures within { IfOk result (λ held. All (λ h. h.part < length alone.now) held.items) }
 {

@@ -19,5 +19,6 @@ mod held_parts;
 mod part_rows;
 mod weights;
 
+pub use held_parts::{HeldPart, first_held};
 pub use part_rows::PartRow;
-pub use weights::Weights;
+pub use weights::{Weights, held_keys, part_row};

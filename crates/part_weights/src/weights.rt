@@ -10,15 +10,16 @@ ghost use Rattle.heap_weights.specs.Shares.{weight_below};
 ghost use Rattle.heap_weights.specs.declared.shares.Weight.{Weight};
 ghost use Rattle.root_views.specs.Sections.{root_bodies};
 ghost use Rattle.cell_parts.specs.Elements.{cell_elements};
-ghost use Rattle.cell_words.specs.Binaries.{binaries_among};
+ghost use Rattle.heap_graph.specs.Binaries.{binaries_among};
 ghost use Rattle.cell_parts.specs.Parts.{ArePartsOf, PartElement};
 ghost use Rattle.part_weights.specs.Weights.{address_weighing, cell_weighing, root_weighing, weighing};
 ghost use Rattle.part_weights.specs.Shown.{row};
 ghost use Rattle.root_parts.specs.Over.{IsOver};
 ghost use Rattle.tuple_fronts.specs.Fronts.{cells_for};
-ghost use Rattle.tuple_fronts.specs.KeyPlaces.{AreKeysWithin, IsKeyWithin, key_place};
+ghost use Rattle.part_keys.specs.KeyPlaces.{AreKeysWithin, IsKeyWithin, key_place};
 ghost use Rattle.heap_skeleton.specs.Skeletons.{skeleton_for};
-ghost use Rattle.part_weights.specs.Inner.Shown.{held_place, label_at, no_part, part_place, row_at, AreParts};
+ghost use Rattle.part_weights.specs.Held.{held_place, no_part, part_place, row_at};
+ghost use Rattle.part_weights.specs.Inner.Shown.{label_at, AreParts};
 
 use crate::held_parts::{HeldPart, first_held, sorted_parts};
 use crate::part_rows::PartRow;
@@ -27,10 +28,11 @@ use dump_io::{Dumps, ReadFault};
 use dump_sections::Index;
 use heap_skeleton::Skeleton;
 use heap_weights::{Shares, Weight, weigh};
+use part_keys::{KeyPlace, PartPlace, key_place, key_shapes};
 use root_parts::read_parts;
 use std::alloc::{AllocError, Global};
 use std::marker::Model;
-use tuple_fronts::{KeyPlace, PartPlace, Texts, key_place, key_shapes};
+use tuple_fronts::Texts;
 
 /// What the parts of a process's heap alone hold.
 #[derive(Drop)]
@@ -149,8 +151,8 @@ fn held_key(skeleton: &Skeleton, parts: &Parts, held: HeldPart, cell: u32) -> Ke
     key_place(skeleton, part_place(parts, held.part, cell))
 }
 
-// Where the keys stand under which parts of a cell do.
-fn held_keys(
+/// Where the keys stand under which some parts of a cell do.
+pub fn held_keys(
     alloc: Global,
     skeleton: &Skeleton,
     parts: &Parts,
@@ -233,8 +235,13 @@ fn label_at<'a>(labels: &'a Option<Texts>, i: usize, parts: &'a Parts, part: usi
     }
 }
 
-// What a report says of a part, with this label.
-fn part_row<'a>(skeleton: &Skeleton, parts: &Parts, held: HeldPart, label: &'a [u8]) -> PartRow<'a>
+/// What a report says of a part that alone holds cells, with this label.
+pub fn part_row<'a>(
+    skeleton: &Skeleton,
+    parts: &Parts,
+    held: HeldPart,
+    label: &'a [u8],
+) -> PartRow<'a>
     requires over { IsOver skeleton.now parts.now }
     requires part { held.part < length parts.now.parts }
     ensures { row result ≡ record (row_at skeleton.now parts.now.parts held) { label = label.now } }

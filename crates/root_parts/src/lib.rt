@@ -2,6 +2,7 @@
 //!
 //! [`read_parts`] reads the bodies with the roots of a process in pieces, whatever their lengths. Of the roots nothing is
 //! kept but their parts (`cell_parts`): for each its cell, how many roots refer to it, and offset and label of the first.
+//! [`read_kind_parts`] does so for the roots of one kind.
 //!
 //! ```text
 //! let skeleton = Skeleton::load(alloc, &mut dumps, &index, b"<0.1.0>")?;
@@ -12,4 +13,4 @@
 
 mod roots;
 
-pub use roots::read_parts;
+pub use roots::{read_kind_parts, read_parts};

@@ -8,7 +8,7 @@ ghost use Rattle.dump_sections.specs.Loading.{bodies_length};
 ghost use Rattle.term_forms.specs.Seen.{element};
 ghost use Rattle.root_views.specs.Sections.{root_bodies, root_section};
 ghost use Rattle.cell_parts.specs.Parts.{ArePartsOf};
-ghost use Rattle.root_parts.specs.Roots.{all_roots, lead_to, roots_elements};
+ghost use Rattle.root_parts.specs.Roots.{all_roots, lead_to, roots_at, roots_elements};
 ghost use Rattle.root_parts.specs.Inner.Hearing.{Gains, GainsAll, GainsSection, IsReady};
 ghost use Rattle.root_parts.specs.Over.{IsOver};
 
@@ -144,6 +144,36 @@ pub fn read_parts<D: Dumps>(
         parts: Parts::new(alloc, skeleton.cells() as usize)?,
     };
     hear_all(dumps, index, pid, &mut buffer, &mut roots)?;
+    let RootParts { parts, .. } = roots;
+    Ok(parts)
+}
+
+/// Reads the stack, the dictionary or the mailbox of a process, once and in pieces, and returns the parts
+/// that the terms among its roots make of a heap with this skeleton. The index was built over the open file, which stays
+/// open. The faults are those of [`read_parts`].
+pub fn read_kind_parts<D: Dumps>(
+    alloc: Global,
+    dumps: &mut D,
+    index: &Index,
+    pid: &[u8],
+    kind: RootKind,
+    skeleton: &Skeleton,
+) -> Result<Parts, ReadFault>
+    requires { IsBuiltOver (D.state dumps.old).now index.now }
+    ensures reads { ReadsAtMost (D.state dumps.old) (D.state dumps.new)
+        (body_size (root_section kind pid.now (sections_in index.now))) }
+    ensures fault { IfErr result (IsReadCauseOf (D.state dumps.old) (D.state dumps.new)) }
+    ensures over { IfOk result (IsOver skeleton.now) }
+    ensures parts { IfOk result (λ parts. IfTold (D.state dumps.old).now (λ dump.
+        ArePartsOf (roots_elements skeleton.now.addresses
+        (roots_at dump kind (root_section kind pid.now (sections_in index.now)))) parts)) }
+{
+    let mut buffer = Vec::new(alloc);
+    let mut roots = RootParts {
+        skeleton,
+        parts: Parts::new(alloc, skeleton.cells() as usize)?,
+    };
+    hear_kind(dumps, index, pid, kind, &mut buffer, &mut roots)?;
     let RootParts { parts, .. } = roots;
     Ok(parts)
 }

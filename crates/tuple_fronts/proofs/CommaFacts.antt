@@ -1,18 +1,15 @@
 -- Texts with commas between them, one after another.
-use Rattle.std.proofs.Common.{◌≡◌, ℕ, zero, suc, ◌+◌, ◌<◌, ◌≤◌, Bool, List, [], ◌∷◌, ◌++◌, length, map, take, Some, refl, sym, ◌∙◌, ap, arith, append_assoc}
+use Rattle.std.proofs.Common.{◌≡◌, ℕ, zero, suc, ◌+◌, ◌<◌, ◌≤◌, Bool, List, [], ◌∷◌, ◌++◌, length, map, take, Some, sym, ◌∙◌, ap, arith, append_assoc}
 use Rattle.std.specs.Prelude.{codes, slice_get, ◌==◌, if◌then◌else◌}
 use Rattle.std.specs.Option.{option_map}
-use Rattle.std.proofs.lemmas.Bool.{eqb-true, false_from_ne_true, lt-ltb}
-use Rattle.std.proofs.lemmas.List.{length-map, length-take-le, take_all}
+use Rattle.std.proofs.lemmas.Bool.{eqb-true, false_from_ne_true}
+use Rattle.std.proofs.lemmas.List.{length-take-le, take_all}
 use Rattle.std.proofs.lemmas.Option.{none-some, same_Some, slice_get-map, slice_get_within}
 use Rattle.dump_io.specs.Laws.Lists.{take-at}
 use Rattle.term_forms.specs.Elements.{Element}
 use Rattle.tuple_fronts.specs.Shapes.{comma_list, or_pid, tag_text, tags_with}
-use Rattle.tuple_fronts.specs.Inner.CellTexts.{comma_behind, tag_at}
-
--- behind the first element there is a comma
-behind-some : (n : ℕ) → comma_behind (suc n) ≡ codes ","
-behind-some n = ap (λ b. if b then codes "," else []) (lt-ltb 0 (suc n) (omega arith))
+use Rattle.tuple_fronts.specs.CellTexts.{comma_behind, tag_at}
+use Rattle.tuple_fronts.specs.Laws.CellTexts.{comma-last}
 
 -- no other element stands at the first place
 other-place : (pids : Bool) (i : ℕ) (e : Element) → or_pid pids (codes "_") e ≡ tag_at pids (suc i) e
@@ -20,19 +17,6 @@ other-place pids i e = ap (λ b. or_pid pids (if b then tag_text e else codes "_
   where
     no-zero : suc i ≡ 0 → ⊥
     no-zero is = omega (arith, is)
-
--- one more text
-pub comma-last : (texts : List (List ℕ)) (text : List ℕ) → comma_list (texts ++ text ∷ []) ≡ comma_list texts ++ (comma_behind (length texts) ++ text)
-comma-last [] text = refl
-comma-last (first ∷ []) text = refl
-comma-last (first ∷ second ∷ texts) text =
-    let inner = comma_list (second ∷ texts) in
-    let before = comma_behind (length (second ∷ texts)) in
-    let after = comma_behind (length (first ∷ second ∷ texts)) in
-    ap (λ l. first ++ (codes "," ++ l)) (comma-last (second ∷ texts) text)
-    ∙ ap (λ l. first ++ l) (sym (append_assoc (codes ",") inner (before ++ text)))
-    ∙ sym (append_assoc first (codes "," ++ inner) (before ++ text))
-    ∙ ap (λ c. (first ++ (codes "," ++ inner)) ++ (c ++ text)) (behind-some (length texts) ∙ sym (behind-some (suc (length texts))))
 
 -- the next text behind those before
 pub comma-next : (texts : List (List ℕ)) (i : ℕ) (text before now comma after : List ℕ) → slice_get texts i ≡ Some text → now ≡ before ++ comma_list (take i texts) → comma ≡ now ++ comma_behind i → after ≡ comma ++ text
@@ -54,10 +38,6 @@ pub comma-all : (texts : List (List ℕ)) (i : ℕ) (before now : List ℕ) → 
 comma-all texts i before now all is = is ∙ ap (λ l. before ++ comma_list l) (take_all i texts all)
 
 -- ---- the elements of a tuple inside a message
-
-pub tags-count : (pids : Bool) (es : List Element) → length (tags_with pids es) ≡ length es
-tags-count pids [] = refl
-tags-count pids (e ∷ es) = ap suc (length-map es (or_pid pids (codes "_")))
 
 pub tag-there : (pids : Bool) (es : List Element) (i : ℕ) (e : Element) → slice_get es i ≡ Some e → slice_get (tags_with pids es) i ≡ Some (tag_at pids i e)
 tag-there pids [] zero e is = absurd (none-some e is)

@@ -2,7 +2,6 @@ pub mod CellFacts
 mod CommaFacts
 pub mod HearFacts
 pub mod KeptFacts
-mod KeyFacts
 pub mod LoadFacts
 mod NeededFacts
 pub mod PartFacts

@@ -1,3 +1,4 @@
 -- Laws of the definitions, each with its proof, for the proofs of callers.
 pub mod CellSets
-pub mod Keys
+pub mod CellTexts
+pub mod Needed

@@ -1,8 +1,8 @@
 pub mod CellSets
 pub mod CellShapes
+pub mod CellTexts
 pub mod Fronts
 pub mod Inner
-pub mod KeyPlaces
-pub mod Keys
 pub mod Laws
 pub mod Shapes
+pub mod Tuples

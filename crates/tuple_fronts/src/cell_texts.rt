@@ -2,8 +2,8 @@
 ghost use Rattle.std.specs.Prelude.{◌≡◌, ◌<◌, ◌++◌, All, false, length, map, IfOk, OnOk};
 ghost use Rattle.term_forms.specs.Seen.{element};
 ghost use Rattle.tuple_fronts.specs.Shapes.{comma_list, tags_with};
-ghost use Rattle.tuple_fronts.specs.Inner.CellTexts.{element_text, element_texts, inner_text, size_of, subject_text, tag_at, tuple_with, AreInner};
-ghost use Rattle.tuple_fronts.specs.Inner.Tuples.{front_at};
+ghost use Rattle.tuple_fronts.specs.CellTexts.{element_text, element_texts, inner_text, size_of, subject_text, tag_at, tuple_with, AreInner};
+ghost use Rattle.tuple_fronts.specs.Tuples.{front_at};
 
 use crate::cell_set::CellSet;
 use crate::texts::Texts;
@@ -101,8 +101,9 @@ fn push_new_inner(
     }
 }
 
-/// The shapes that tuples have inside messages. Each is made once, however many messages show it.
-pub(crate) fn inner_texts(
+/// The shapes that tuples have inside messages, given the first 8 elements of each. Each is made once, however many messages
+/// show it.
+pub fn inner_texts(
     alloc: Global,
     skeleton: &Skeleton,
     tuples: &Tuples,
@@ -141,8 +142,9 @@ fn push_inner(
     }
 }
 
-/// Appends the shape of an element of a message.
-pub(crate) fn push_element(
+/// Appends the shape of an element of a message, given the tuples among those to which it refers, and their shapes inside
+/// messages.
+pub fn push_element(
     alloc: Global,
     text: &mut Vec<u8>,
     skeleton: &Skeleton,
@@ -212,8 +214,8 @@ fn push_subject_tuple(
     push_end(text, tuples.count(cell), skeleton.places(cell))
 }
 
-// Appends the shape of a cell to which a message refers.
-fn push_subject(
+/// Appends the shape of a cell to which a message refers, given the tuples that it needs, and their shapes inside messages.
+pub fn push_subject(
     alloc: Global,
     text: &mut Vec<u8>,
     skeleton: &Skeleton,

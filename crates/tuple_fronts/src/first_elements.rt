@@ -16,7 +16,7 @@ use term_forms::shapes::Opened;
 use term_forms::{Enc, Joined, PlacedElem, front_is_longest, heap_line, open_form, whole_is_read};
 
 /// The most elements of a tuple that its shape shows.
-pub(crate) const MOST_ELEMENTS: usize = 8;
+pub const MOST_ELEMENTS: usize = 8;
 
 // The next element, unless all were read, or the text doesn't spell as many.
 fn next_of<'a>(elements: &mut Joined<'a>) -> Option<PlacedElem<'a>>

@@ -13,7 +13,7 @@ use crate::front_sink::FrontSink;
 use crate::kept::Kept;
 use crate::runs::cells_behind;
 use body_lines::hear_whole_lines;
-use cell_words::Weighed;
+use cell_graphs::Weighed;
 use dump_io::{Dumps, ReadFault};
 use dump_sections::Index;
 use heap_cells::enc_of;

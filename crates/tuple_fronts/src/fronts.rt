@@ -1,5 +1,5 @@
 // The first elements of tuples and lists.
-ghost use Rattle.std.specs.Prelude.{◌≡◌, ◌<◌, ◌≤◌, Some, [], All, length, slice_get, slice_index_or, IfOk, IfErr};
+ghost use Rattle.std.specs.Prelude.{◌≡◌, ◌<◌, Some, [], All, length, slice_get, slice_index_or, IfOk, IfErr};
 ghost use Rattle.std.specs.List.Sorted.{IsStrictlyIncreasing};
 ghost use Rattle.dump_io.specs.Dumps.{ReadsAtMost, IfTold};
 ghost use Rattle.dump_io.specs.Faults.{IsReadCauseOf};

@@ -18,8 +18,9 @@
 //! it has inside a message, as `{put,_,_}`. Of an atom at most the first 255 bytes are shown. The cells are a [`CellSet`].
 //! [`cell_shapes_with`] can also show pids that are elements, as `{ok,<0.81.0>}`.
 //!
-//! The *key* under which a part of a map stands is an element of another cell: [`key_place`] says of which, and
-//! [`key_shapes`] has the shapes of keys (`specs/Keys.antt`).
+//! What else has to show shapes in the same pass over the heap (`part_keys`) collects the tuples that it needs by
+//! [`add_lead`] and [`add_needed`], reads them with [`Tuples::load`], makes the shapes that they have inside messages with
+//! [`inner_texts`], and writes by these what it shows: [`push_element`] and [`push_subject`].
 #![tactic(auto)]
 
 mod cell_set;
@@ -29,8 +30,6 @@ mod front_lines;
 mod front_sink;
 mod fronts;
 mod kept;
-mod key_places;
-mod keys;
 mod needed;
 mod runs;
 mod shapes;
@@ -39,9 +38,11 @@ mod tuples;
 mod words;
 
 pub use cell_set::CellSet;
+pub use cell_texts::{inner_texts, push_element, push_subject};
+pub use first_elements::MOST_ELEMENTS;
 pub use fronts::TupleFronts;
-pub use key_places::{KeyPlace, PartPlace, key_place};
-pub use keys::key_shapes;
+pub use needed::{add_lead, add_needed};
 pub use shapes::{cell_shapes, cell_shapes_with, inner_shapes};
 pub use texts::Texts;
+pub use tuples::Tuples;
 pub use words::{push_plain, push_plain_with};

@@ -2,7 +2,7 @@
 ghost use Rattle.std.specs.Prelude.{◌≡◌, ℕ, ◌<◌, ◌++◌, All, Contains, length, take, flat_map, IfOk, IfSome, OnOk};
 ghost use Rattle.std.specs.List.Sorted.{IsStrictlyIncreasing};
 ghost use Rattle.cell_graphs.specs.Graphs.{places_at, LeadsWithin};
-ghost use Rattle.tuple_fronts.specs.Inner.Tuples.{lead_tuple, needed, needed_at};
+ghost use Rattle.tuple_fronts.specs.Tuples.{lead_tuple, needed, needed_at};
 
 use crate::cell_set::CellSet;
 use crate::first_elements::MOST_ELEMENTS;
@@ -11,7 +11,7 @@ use heap_skeleton::Skeleton;
 use std::alloc::{AllocError, Global};
 
 /// Appends the cell to which a place leads, if it is a tuple.
-pub(crate) fn add_lead(
+pub fn add_lead(
     skeleton: &Skeleton,
     cells: &mut Vec<u32>,
     lead: Option<u32>,
@@ -40,8 +40,8 @@ fn add_leads(skeleton: &Skeleton, cells: &mut Vec<u32>, cell: u32) -> Result<(),
     Ok(())
 }
 
-// Appends a cell to which a message refers, if it is a tuple, and the tuples among its first elements.
-fn add_needed(skeleton: &Skeleton, cells: &mut Vec<u32>, cell: u32) -> Result<(), AllocError>
+/// Appends a cell to which a message refers, if it is a tuple, and the tuples among its first elements.
+pub fn add_needed(skeleton: &Skeleton, cells: &mut Vec<u32>, cell: u32) -> Result<(), AllocError>
     requires cell { cell < length skeleton.now.leads }
     requires within { LeadsWithin skeleton.now.leads }
     ensures { OnOk result (cells.new.items ≡ cells.old.items ++ needed_at skeleton.now cell) }

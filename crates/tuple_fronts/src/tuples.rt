@@ -10,7 +10,7 @@ ghost use Rattle.heap_skeleton.specs.Skeletons.{skeleton_for};
 ghost use Rattle.term_forms.specs.Seen.{element};
 ghost use Rattle.tuple_fronts.specs.Fronts.{firsts_for};
 ghost use Rattle.tuple_fronts.specs.CellSets.{place_of};
-ghost use Rattle.tuple_fronts.specs.Inner.Tuples.{front_at};
+ghost use Rattle.tuple_fronts.specs.Tuples.{front_at};
 
 use crate::cell_set::CellSet;
 use crate::fronts::TupleFronts;
@@ -21,16 +21,16 @@ use std::alloc::Global;
 use std::marker::Model;
 use term_forms::shapes::Elem;
 
-/// Tuples, and the first elements of each. Contracts see both.
+/// Tuples and lists, and the first elements of each, which are found by the number of its cell. Contracts see both.
 #[derive(Drop)]
-pub(crate) struct Tuples {
+pub struct Tuples {
     cells: CellSet,
     fronts: TupleFronts,
 }
 
 impl Model for Tuples {
     ghost use Rattle.std.specs.Prelude.{◌≡◌, length};
-    ghost use Rattle.tuple_fronts.specs.Inner.Tuples.{TupleMap};
+    ghost use Rattle.tuple_fronts.specs.Tuples.{TupleMap};
 
     ghost Value = { TupleMap };
 
@@ -40,8 +40,9 @@ impl Model for Tuples {
 }
 
 impl Tuples {
-    /// Reads the heap of a process and the literals once more, and keeps the first `most` elements of these cells.
-    pub(crate) fn load<D: Dumps>(
+    /// Reads the heap of a process and the literals once more, and keeps the first `most` elements of these cells, as
+    /// [`TupleFronts::load_first`] does.
+    pub fn load<D: Dumps>(
         alloc: Global,
         dumps: &mut D,
         index: &Index,
@@ -91,7 +92,7 @@ impl Tuples {
     }
 
     /// How many first elements of a cell are known.
-    pub(crate) fn count(&self, cell: u32) -> usize
+    pub fn count(&self, cell: u32) -> usize
         ensures { result ≡ length (front_at self.now cell) }
     {
         match self.cells.place(cell) {
@@ -101,7 +102,7 @@ impl Tuples {
     }
 
     /// The element at a place of a cell.
-    pub(crate) fn element(&self, cell: u32, place: usize) -> Elem<'_>
+    pub fn element(&self, cell: u32, place: usize) -> Elem<'_>
         requires { place < length (front_at self.now cell) }
         ensures { slice_get (front_at self.now cell) place ≡ Some (element result) }
     {

@@ -2,7 +2,7 @@
 ghost use Rattle.std.specs.Prelude.{◌≡◌, ◌++◌, OnOk};
 ghost use Rattle.term_forms.specs.Seen.{element};
 ghost use Rattle.tuple_fronts.specs.Shapes.{atom_shape, tag_text};
-ghost use Rattle.tuple_fronts.specs.Inner.CellTexts.{comma_behind, end_text, kind_text};
+ghost use Rattle.tuple_fronts.specs.CellTexts.{comma_behind, end_text, kind_text};
 ghost use Rattle.tuple_fronts.specs.Shapes.{or_pid, plain_shape, plain_with};
 ghost use Rattle.term_forms.specs.Elements.{Pid};
 

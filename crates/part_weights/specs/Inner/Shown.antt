@@ -2,27 +2,15 @@
 use Rattle.std.specs.Prelude.{ℕ, ◌<◌, List, [], length, map, All, Option, None, Some, slice_index_or}
 use Rattle.std.specs.List.{enumerate_from}
 use Rattle.cell_parts.specs.Parts.{CellPart, CellParts}
-use Rattle.cell_words.specs.Binaries.{binaries_among}
+use Rattle.heap_graph.specs.Binaries.{binaries_among}
 use Rattle.heap_skeleton.specs.Skeletons.{SkeletonMap}
 use Rattle.heap_weights.specs.Shares.{AreShares}
 use Rattle.heap_weights.specs.declared.shares.Shares.{Shares}
 use Rattle.heap_weights.specs.declared.shares.Weight.{Weight}
 use Rattle.root_parts.specs.Over.{IsOver}
-use Rattle.tuple_fronts.specs.declared.key_places.PartPlace.{PartPlace}
-use Rattle.part_weights.specs.Weights.{Row, Weighing, row_of}
+use Rattle.part_weights.specs.Held.{no_part, row_at}
+use Rattle.part_weights.specs.Weights.{Row, Weighing}
 use Rattle.part_weights.specs.declared.held_parts.HeldPart.{HeldPart}
-
--- past the last part
-abbrev pub no_part : CellPart
-no_part = record { cell = 0; elements = 0; at = 0; label = [] }
-
--- the row of a part that alone holds a cell
-abbrev pub row_at : SkeletonMap → List CellPart → HeldPart → Row
-row_at heap parts held = row_of heap (slice_index_or parts held.part no_part, held.weight)
-
--- the rows of parts that alone hold a cell
-abbrev pub rows_at : SkeletonMap → List CellPart → List HeldPart → List Row
-rows_at heap parts held = map (row_at heap parts) held
 
 -- the label of the row at a place: one of these texts, or that of its part
 abbrev pub label_at : Option (List (List ℕ)) → ℕ → CellPart → List ℕ
@@ -37,14 +25,6 @@ labelled_row heap parts labels (i, held) =
 -- the rows of parts that alone hold a cell, with their labels
 abbrev pub labelled_rows : SkeletonMap → List CellPart → Option (List (List ℕ)) → List HeldPart → List Row
 labelled_rows heap parts labels held = map (labelled_row heap parts labels) (enumerate_from 0 held)
-
--- where a part stands among the elements of a cell
-abbrev pub part_place : ℕ → CellPart → PartPlace
-part_place cell part = record { cell = cell; at = part.at; part = part.cell }
-
--- where the parts stand that alone hold a cell
-abbrev pub held_place : ℕ → List CellPart → HeldPart → PartPlace
-held_place cell parts held = part_place cell (slice_index_or parts held.part no_part)
 
 -- a weighing with these parts, of which those that alone hold a cell have rows with labels, and with these sums
 abbrev pub weighing_with : SkeletonMap → CellParts → List HeldPart → Option (List (List ℕ)) → Option Weight → Weight → Weight → Weight → Weighing

@@ -1,6 +1,6 @@
 use Rattle.std.proofs.Common.{◌≡◌, ◌++◌, drop}
 use Rattle.std.specs.List.{enumerate_from, filter_map}
-use Rattle.part_weights.specs.Inner.Held.{held_part, held_parts}
+use Rattle.part_weights.specs.Held.{held_part, held_parts}
 use Rattle.part_weights.proofs.held_parts.held_parts.Given as goal
 
 -- what was appended, and what the parts that are left have

@@ -1,7 +1,7 @@
 use Rattle.std.proofs.Common.{◌<◌, length, sym, subst}
 use Rattle.std.specs.Prelude.{All}
 use Rattle.std.proofs.lemmas.List.Sorted.{All-permutation}
-use Rattle.part_weights.proofs.HeldFacts.{held-numbered}
+use Rattle.part_weights.specs.Laws.Rows.{held-numbered}
 use Rattle.part_weights.proofs.held_parts.sorted_parts.Goals as goal
 
 pub returns-clause-within : goal.returns-clause-within

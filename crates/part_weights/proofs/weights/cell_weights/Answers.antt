@@ -2,10 +2,10 @@ use Rattle.std.proofs.Common.{◌≡◌, ◌<◌, length, map, take, Some, sym, 
 use Rattle.std.specs.Prelude.{All}
 use Rattle.cell_parts.specs.Elements.{cell_elements}
 use Rattle.tuple_fronts.specs.Fronts.{cells_for}
-use Rattle.tuple_fronts.specs.Keys.{key_label, place_shape}
+use Rattle.part_keys.specs.Keys.{key_label, place_shape}
 use Rattle.part_weights.specs.Weights.{first_parts, keyed, weighing}
-use Rattle.part_weights.specs.Inner.Held.{sorted_parts}
-use Rattle.part_weights.specs.Inner.Shown.{held_place}
+use Rattle.part_weights.specs.Held.{sorted_parts}
+use Rattle.part_weights.specs.Held.{held_place}
 use Rattle.part_weights.proofs.KeyedFacts.{keyed-kept, texts-are}
 use Rattle.part_weights.proofs.ShareFacts.{shares-count}
 use Rattle.part_weights.proofs.weights.cell_weights.Goals as goal

@@ -1,8 +1,8 @@
 use Rattle.std.proofs.Common.{◌≤◌, length, map, sym, ◌∙◌, ap, subst, arith}
 use Rattle.std.proofs.lemmas.List.{take_all}
 use Rattle.std.proofs.lemmas.List.Elements.{All-push}
-use Rattle.tuple_fronts.specs.KeyPlaces.{AreKeysWithin, IsKeyWithin, key_place}
-use Rattle.part_weights.specs.Inner.Shown.{held_place}
+use Rattle.part_keys.specs.KeyPlaces.{AreKeysWithin, IsKeyWithin, key_place}
+use Rattle.part_weights.specs.Held.{held_place}
 use Rattle.part_weights.proofs.KeyedFacts.{held-within, map-next}
 use Rattle.part_weights.proofs.weights.held_keys.Goals as goal
 

@@ -1,6 +1,6 @@
 use Rattle.std.proofs.Common.{◌≡◌, length, map, take}
-use Rattle.tuple_fronts.specs.KeyPlaces.{AreKeysWithin, key_place}
-use Rattle.part_weights.specs.Inner.Shown.{held_place}
+use Rattle.part_keys.specs.KeyPlaces.{AreKeysWithin, key_place}
+use Rattle.part_weights.specs.Held.{held_place}
 use Rattle.part_weights.proofs.weights.held_keys.Given as goal
 
 -- the keys of the parts so far

@@ -1,5 +1,5 @@
 use Rattle.std.proofs.Common.{◌∙◌}
-use Rattle.cell_words.specs.Binaries.{binaries_among}
+use Rattle.heap_graph.specs.Binaries.{binaries_among}
 use Rattle.part_weights.proofs.ShareFacts.{reached-alone}
 use Rattle.part_weights.proofs.weights.weigh_cell.Goals as goal
 

@@ -1,6 +1,6 @@
 use Rattle.std.proofs.Common.{◌≡◌, ◌<◌, None, length, ◌∙◌, ap, subst}
 use Rattle.std.specs.Prelude.{All}
-use Rattle.part_weights.specs.Inner.Held.{sorted_parts}
+use Rattle.part_weights.specs.Held.{sorted_parts}
 use Rattle.part_weights.specs.Inner.Shown.{weighing_with}
 use Rattle.part_weights.proofs.ShareFacts.{shares-count, weighing-kept}
 use Rattle.part_weights.proofs.weights.weights_of.Goals as goal

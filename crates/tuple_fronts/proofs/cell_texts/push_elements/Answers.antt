@@ -1,8 +1,8 @@
 use Rattle.std.proofs.Common.{arith}
 use Rattle.std.proofs.lemmas.List.{length-map}
 use Rattle.term_forms.specs.Seen.{element}
-use Rattle.tuple_fronts.specs.Inner.CellTexts.{element_text, element_texts}
-use Rattle.tuple_fronts.specs.Inner.Tuples.{front_at}
+use Rattle.tuple_fronts.specs.CellTexts.{element_text, element_texts}
+use Rattle.tuple_fronts.specs.Tuples.{front_at}
 use Rattle.tuple_fronts.proofs.CommaFacts.{comma-all, comma-next, text-there}
 use Rattle.tuple_fronts.proofs.cell_texts.push_elements.Goals as goal
 

@@ -1,6 +1,6 @@
 use Rattle.std.proofs.Common.{◌≡◌, ◌++◌, take}
 use Rattle.tuple_fronts.specs.Shapes.{comma_list}
-use Rattle.tuple_fronts.specs.Inner.CellTexts.{element_texts}
+use Rattle.tuple_fronts.specs.CellTexts.{element_texts}
 use Rattle.tuple_fronts.proofs.cell_texts.push_elements.Given as goal
 
 -- the elements so far were written

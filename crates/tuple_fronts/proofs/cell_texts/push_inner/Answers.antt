@@ -1,7 +1,7 @@
 use Rattle.std.proofs.Common.{◌≡◌, ℕ, List, ◌++◌, Ok, Err, Result, subst, if◌then◌else◌}
 use Rattle.std.specs.Prelude.{OnOk}
 use Rattle.std.specs.Result.{is_ok}
-use Rattle.tuple_fronts.specs.Inner.CellTexts.{inner_text}
+use Rattle.tuple_fronts.specs.CellTexts.{inner_text}
 use Rattle.tuple_fronts.proofs.SetFacts.{found-image}
 use Rattle.tuple_fronts.proofs.cell_texts.push_inner.Goals as goal
 

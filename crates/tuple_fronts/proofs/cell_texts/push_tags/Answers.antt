@@ -1,9 +1,10 @@
 use Rattle.std.proofs.Common.{arith}
 use Rattle.term_forms.specs.Seen.{element}
 use Rattle.tuple_fronts.specs.Shapes.{tags_with}
-use Rattle.tuple_fronts.specs.Inner.CellTexts.{tag_at}
-use Rattle.tuple_fronts.specs.Inner.Tuples.{front_at}
-use Rattle.tuple_fronts.proofs.CommaFacts.{comma-all, comma-next, tag-there, tags-count}
+use Rattle.tuple_fronts.specs.CellTexts.{tag_at}
+use Rattle.tuple_fronts.specs.Tuples.{front_at}
+use Rattle.tuple_fronts.specs.Laws.CellTexts.{tags-count}
+use Rattle.tuple_fronts.proofs.CommaFacts.{comma-all, comma-next, tag-there}
 use Rattle.tuple_fronts.proofs.cell_texts.push_tags.Goals as goal
 
 pub loop-place-preserved : goal.loop-place-preserved

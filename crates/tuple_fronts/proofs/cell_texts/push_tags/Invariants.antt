@@ -1,6 +1,6 @@
 use Rattle.std.proofs.Common.{◌≡◌, ◌++◌, take}
 use Rattle.tuple_fronts.specs.Shapes.{comma_list, tags_with}
-use Rattle.tuple_fronts.specs.Inner.Tuples.{front_at}
+use Rattle.tuple_fronts.specs.Tuples.{front_at}
 use Rattle.tuple_fronts.proofs.cell_texts.push_tags.Given as goal
 
 -- the elements so far were written

@@ -1,5 +1,5 @@
 use Rattle.std.proofs.Common.{◌≡◌, take, map}
-use Rattle.tuple_fronts.specs.Inner.CellTexts.{subject_text}
+use Rattle.tuple_fronts.specs.CellTexts.{subject_text}
 use Rattle.tuple_fronts.proofs.cell_texts.subject_texts.Given as goal
 
 -- the shapes of the cells so far

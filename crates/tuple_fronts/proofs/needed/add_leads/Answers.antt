@@ -2,7 +2,7 @@ use Rattle.std.proofs.Common.{◌≡◌, ◌++◌, length, min, ◌∙◌, ap, a
 use Rattle.std.specs.Prelude.{flat_map}
 use Rattle.cell_graphs.specs.Graphs.{places_at}
 use Rattle.cell_graphs.specs.Laws.Places.{place-within}
-use Rattle.tuple_fronts.specs.Inner.Tuples.{lead_tuple}
+use Rattle.tuple_fronts.specs.Tuples.{lead_tuple}
 use Rattle.tuple_fronts.proofs.NeededFacts.{flat-next, take-few}
 use Rattle.tuple_fronts.proofs.needed.add_leads.Goals as goal
 

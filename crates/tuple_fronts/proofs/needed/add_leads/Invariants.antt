@@ -1,7 +1,7 @@
 use Rattle.std.proofs.Common.{◌≡◌, ◌++◌, take}
 use Rattle.std.specs.Prelude.{flat_map}
 use Rattle.cell_graphs.specs.Graphs.{places_at}
-use Rattle.tuple_fronts.specs.Inner.Tuples.{lead_tuple}
+use Rattle.tuple_fronts.specs.Tuples.{lead_tuple}
 use Rattle.tuple_fronts.proofs.needed.add_leads.Given as goal
 
 -- the tuples among those to which the places so far lead

@@ -1,8 +1,8 @@
 use Rattle.std.proofs.Common.{◌≡◌, ◌<◌, ◌≤◌, All, length, ◌∙◌, sym, ap, subst, arith}
 use Rattle.std.specs.Prelude.{Contains}
 use Rattle.std.proofs.lemmas.List.{take_all}
-use Rattle.tuple_fronts.specs.Inner.Tuples.{needed}
-use Rattle.tuple_fronts.proofs.NeededFacts.{needed-within}
+use Rattle.tuple_fronts.specs.Tuples.{needed}
+use Rattle.tuple_fronts.specs.Laws.Needed.{needed-within}
 use Rattle.tuple_fronts.proofs.needed.needed_cells.Goals as goal
 
 collected : (c : goal.After-of) → c.loop-cell.cells.items ≡ needed c.args.skeleton.now c.args.subjects.now

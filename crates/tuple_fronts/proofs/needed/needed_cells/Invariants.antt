@@ -1,5 +1,5 @@
 use Rattle.std.proofs.Common.{◌≡◌, take}
-use Rattle.tuple_fronts.specs.Inner.Tuples.{needed}
+use Rattle.tuple_fronts.specs.Tuples.{needed}
 use Rattle.tuple_fronts.proofs.needed.needed_cells.Given as goal
 
 -- what the cells so far need

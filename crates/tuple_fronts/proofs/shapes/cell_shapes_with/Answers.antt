@@ -1,6 +1,6 @@
 use Rattle.std.proofs.Common.{◌∙◌, ap, length}
 use Rattle.std.proofs.lemmas.List.{length-map}
-use Rattle.tuple_fronts.specs.Inner.CellTexts.{subject_text}
+use Rattle.tuple_fronts.specs.CellTexts.{subject_text}
 use Rattle.tuple_fronts.proofs.ShownFacts.{subjects-shown}
 use Rattle.tuple_fronts.proofs.shapes.cell_shapes_with.Goals as goal
 

@@ -1,7 +1,7 @@
 use Rattle.std.proofs.Common.{◌∙◌, ap, subst, false, length}
 use Rattle.std.specs.List.Sorted.{IsStrictlyIncreasing}
 use Rattle.std.proofs.lemmas.List.{length-map}
-use Rattle.tuple_fronts.specs.Inner.CellTexts.{inner_text}
+use Rattle.tuple_fronts.specs.CellTexts.{inner_text}
 use Rattle.tuple_fronts.proofs.ShownFacts.{inner-shown}
 use Rattle.tuple_fronts.proofs.shapes.inner_shapes.Goals as goal
 

@@ -1,7 +1,7 @@
 use Rattle.std.proofs.Common.{Some, length, sym, ◌∙◌, ap, arith}
 use Rattle.std.specs.Prelude.{slice_get}
 use Rattle.part_weights.specs.Weights.{Weighing}
-use Rattle.part_weights.specs.Inner.Shown.{row_at}
+use Rattle.part_weights.specs.Held.{row_at}
 use Rattle.part_weights.proofs.KeyedFacts.{held-within, row-there, rows-count}
 use Rattle.part_weights.proofs.weights.Weights.row.Goals as goal
 

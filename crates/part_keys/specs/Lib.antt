@@ -1,0 +1,5 @@
+pub mod Inner
+pub mod KeyPlaces
+pub mod Keys
+pub mod Laws
+pub mod PartShapes

@@ -1,0 +1,3 @@
+-- Laws of the definitions, each with its proof, for the proofs of callers.
+pub mod Keyed
+pub mod Rows
