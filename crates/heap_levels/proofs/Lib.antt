@@ -1,0 +1,7 @@
+mod FinishFacts
+mod KeyFacts
+mod KindFacts
+mod LabelFacts
+mod LevelFacts
+mod RowFacts
+mod ShapeFacts

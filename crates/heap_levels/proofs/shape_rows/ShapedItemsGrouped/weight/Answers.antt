@@ -1,0 +1,9 @@
+use Rattle.std.proofs.Common.{◌∙◌, ap}
+use Rattle.text_groups.specs.Groups.{item_at}
+use Rattle.heap_levels.proofs.ShapeFacts.{weight-at}
+use Rattle.heap_levels.proofs.shape_rows.ShapedItemsGrouped.weight.Goals as goal
+
+pub returns : goal.returns
+returns c =
+    let s = c.self.inside in
+    c.words_at.ensures ∙ weight-at s.texts.now s.words.now c.args.i c.self.invariant ∙ ap (λ l. (item_at l c.args.i).weight) c.self.view_is

@@ -1,0 +1,4 @@
+pub mod Inner
+pub mod Laws
+pub mod Levels
+pub mod Shown
