@@ -57,7 +57,7 @@ meets-comes : (ws : List Waiter) (target : List ℕ) (r : ℕ) → Meets (next_o
 meets-comes ws target _ (here r is) = waits r target (waits-is ws target r is)
 meets-comes ws target _ (later r s at rest) = onward r s target at (meets-comes ws target s rest)
 
-comes-meets : (ws : List Waiter) (r : ℕ) (target : List ℕ) → ComesTo ws r target → Meets (next_of ws) (λ u. waits_for ws target u ≡ true) r
+pub comes-meets : (ws : List Waiter) (r : ℕ) (target : List ℕ) → ComesTo ws r target → Meets (next_of ws) (λ u. waits_for ws target u ≡ true) r
 comes-meets ws _ _ (waits r target at) = here r (is-waits ws target r at)
 comes-meets ws _ _ (onward r s target at rest) = later r s at (comes-meets ws s target rest)
 

@@ -29,10 +29,6 @@ onto-below leads r v is =
 
 -- ---- one after another
 
-pub comes-then : (leads : List (Option ℕ)) (s v r : ℕ) → Comes leads r s → Comes leads s v → Comes leads r v
-comes-then leads s v _ (here r is) more = later r s is more
-comes-then leads s v _ (later r q at rest) more = later r q at (comes-then leads s v q rest more)
-
 -- the last that leads there
 pub last-step : (leads : List (Option ℕ)) (v r : ℕ) → Comes leads r v → (u : ℕ) × (onto leads u ≡ Some v) × ((u ≡ r) ⊎ Comes leads r u)
 last-step leads v _ (here r is) = (r, is, inl refl)

@@ -6,11 +6,22 @@ use Rattle.std.proofs.lemmas.Bool.{cases_Bool, eqb-true, false≢true, or_cases,
 use Rattle.std.proofs.lemmas.Map.Steps.{length-le_from_distinct_below}
 use Rattle.dump_io.specs.Laws.Lists.{none_passes}
 use Rattle.wait_circles.specs.Steps.{some_within}
-use Rattle.wait_circles.specs.Inner.Meeting.{IsChain, IsOnce, Meets, here, is_on, later}
+use Rattle.wait_circles.specs.Inner.Meeting.{ComesBy, IsChain, IsOnce, Meets, here, is_on, later}
 
 pub meets-as : (next : ℕ → Option ℕ) (P Q : ℕ → Type 0) (r : ℕ) → ((u : ℕ) → P u → Q u) → Meets next P r → Meets next Q r
 meets-as next P Q _ also (here r is) = here r (also r is)
 meets-as next P Q _ also (later r s at rest) = later r s at (meets-as next P Q s also rest)
+
+-- ---- one after another
+
+pub comes-then : (next : ℕ → Option ℕ) (s v r : ℕ) → ComesBy next r s → ComesBy next s v → ComesBy next r v
+comes-then next s v _ (here r is) more = later r s is more
+comes-then next s v _ (later r q at rest) more = later r q at (comes-then next s v q rest more)
+
+-- what comes to another leads somewhere
+pub comes-from : (next : ℕ → Option ℕ) (v r : ℕ) → ComesBy next r v → (s : ℕ) × (next r ≡ Some s)
+comes-from next v _ (here r is) = (v, is)
+comes-from next v _ (later r s at rest) = (s, at)
 
 -- ---- what the test finds is met
 

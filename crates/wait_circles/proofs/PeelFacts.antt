@@ -10,7 +10,8 @@ use Rattle.wait_circles.specs.Inner.Leading.{onto, is_to, tokens, Comes, CountsT
 use Rattle.wait_circles.specs.Inner.Meeting.{here, later}
 use Rattle.wait_circles.specs.Inner.Peeling.{ArePeeling, IsGone, IsPeeling, IsPeeledUpto}
 use Rattle.wait_circles.specs.declared.tokens.Tokens.{Tokens}
-use Rattle.wait_circles.proofs.LeadFacts.{no-some, to-is, is-to, onto-below, comes-then, last-step, first-step, reaches-comes, comes-reaches, token-counts, none-leads, move, tokens-moved, onto-map, count-places}
+use Rattle.wait_circles.proofs.LeadFacts.{no-some, to-is, is-to, onto-below, last-step, first-step, reaches-comes, comes-reaches, token-counts, none-leads, move, tokens-moved, onto-map, count-places}
+use Rattle.wait_circles.proofs.MeetFacts.{comes-then}
 
 -- what comes to a number that is gone is gone
 pub gone-back : (leads left : List (Option ℕ)) (v : ℕ) → ((u w : ℕ) → onto leads u ≡ Some w → IsGone leads left w → IsGone leads left u)
@@ -149,7 +150,7 @@ module _ (leads left : List (Option ℕ)) (counts incoming : List ℕ) (p : IsPe
   new-sound : (r v : ℕ) → onto (map (move i j) p.places) r ≡ Some v → Comes leads r v
   new-sound r v lies =
       elim (moved-from r v lies) [
-        | inl on ↦ subst (Comes leads r) (sym on.1) (comes-then leads i j r (p.sound r i on.0) (here i led))
+        | inl on ↦ subst (Comes leads r) (sym on.1) (comes-then (onto leads) i j r (p.sound r i on.0) (here i led))
         | inr same ↦ p.sound r v same.0
       ]
 

@@ -12,7 +12,8 @@ use Rattle.wait_circles.specs.Inner.Peeling.{IsGone, IsPeeling, IsPeeledUpto}
 use Rattle.wait_circles.specs.Inner.Telling.{IsRing, IsTelling, TakesRing}
 use Rattle.wait_circles.proofs.LeadFacts.{no-some, onto-below, first-step, some-leads}
 use Rattle.wait_circles.proofs.PeelFacts.{gone-or-left, told-there, no-circle-there}
-use Rattle.wait_circles.proofs.RingFacts.{LeadsTo, all-come, chain-way, comes-home, on-cases, on-more, on-own, on-ring, ring-few, ring-sum, stays-on, way-chain}
+use Rattle.wait_circles.proofs.ChainFacts.{LeadsTo, all-come, chain-way, comes-home, on-cases, on-more, on-own, stays-on, way-chain}
+use Rattle.wait_circles.proofs.RingFacts.{on-ring, ring-few, ring-sum}
 
 none-or-some : (o : Option ℕ) → (o ≡ None) ⊎ ((w : ℕ) × (o ≡ Some w))
 none-or-some None = inl refl
@@ -44,7 +45,7 @@ module _ (leads left : List (Option ℕ)) (counts incoming : List ℕ) (p : IsPe
         | inl some ↦
             let before = some-leads left v some in
             let ring = ring-of before.0 v before.1 in
-            let itself = all-come leads before.0 ring.0 ring.1.chain before.0 before.0 (on-own before.0 ring.0) (on-own before.0 ring.0) in
+            let itself = all-come (onto leads) before.0 ring.0 ring.1.chain before.0 before.0 (on-own before.0 ring.0) (on-own before.0 ring.0) in
             absurd (elim (first-step leads before.0 before.0 v (led-by before.0 v before.1) itself) [
               | inl same ↦ no-some v (sym none ∙ ap (onto left) (sym same) ∙ before.1)
               | inr come ↦ goes-on before.0 come
@@ -130,16 +131,16 @@ circle-none leads left counts count r t none = by (way_within (onto leads) r cou
     by None is = refl
     by (Some way) is =
         let home = way-chain (onto leads) r count r way is in
-        let itself = comes-home leads r r r home.rest home.chain (on-own r home.rest) in
+        let itself = comes-home (onto leads) r r r home.rest home.chain (on-own r home.rest) in
         let first = t.earlier r none itself in
-        let on = stays-on leads r home.rest home.chain first.0 r (on-own r home.rest) first.2 in
+        let on = stays-on (onto leads) r home.rest home.chain first.0 r (on-own r home.rest) first.2 in
         tested way (list_all (nat_le r) way) refl (list-all-false r first.0 way (subst (λ l. is_on first.0 l ≡ true) (sym home.is) on) first.1)
 
 -- ---- a circle
 
 -- the numbers of a circle are left together
 chain-gone : (leads left : List (Option ℕ)) (home : ℕ) → ((v w : ℕ) → Comes leads v v → onto left v ≡ None → onto leads v ≡ Some w → onto left w ≡ None)
-    → (h : ℕ) (rest : List ℕ) → LeadsTo leads home (h ∷ rest) → ((c : ℕ) → is_on c (h ∷ rest) ≡ true → Comes leads c c) → (c : ℕ) → is_on c (h ∷ rest) ≡ true → onto left c ≡ None → onto left home ≡ None
+    → (h : ℕ) (rest : List ℕ) → LeadsTo (onto leads) home (h ∷ rest) → ((c : ℕ) → is_on c (h ∷ rest) ≡ true → Comes leads c c) → (c : ℕ) → is_on c (h ∷ rest) ≡ true → onto left c ≡ None → onto left home ≡ None
 chain-gone leads left home closed h [] chain itself c on none =
     elim (on-cases c h [] on) [
       | inl same ↦ closed h home (itself h (on-own h [])) (ap (onto left) (sym same) ∙ none) chain
@@ -157,7 +158,7 @@ module _ (leads left : List (Option ℕ)) (counts : List ℕ) (r : ℕ) (t : IsT
   pub ring-left : (c : ℕ) → is_on c (r ∷ rest) ≡ true → (x : ℕ) × (onto left c ≡ Some x) × (onto leads c ≡ Some x)
   ring-left c on =
       elim (none-or-some (onto left c)) [
-        | inl none ↦ absurd (no-some w (sym (chain-gone leads left r t.closed r rest ring.chain (λ q qon. all-come leads r rest ring.chain q q qon qon) c on none) ∙ at))
+        | inl none ↦ absurd (no-some w (sym (chain-gone leads left r t.closed r rest ring.chain (λ q qon. all-come (onto leads) r rest ring.chain q q qon qon) c on none) ∙ at))
         | inr some ↦ (some.0, some.1, t.led c some.0 some.1)
       ]
 
@@ -174,7 +175,7 @@ module _ (leads left : List (Option ℕ)) (counts : List ℕ) (r : ℕ) (t : IsT
 
   pub circle-some : (count : ℕ) → ((u v : ℕ) → onto leads u ≡ Some v → u < count) → circle_from (onto leads) count r ≡ Some (r ∷ rest)
   circle-some count below =
-      ap (option_and_then (λ way. if list_all (nat_le r) way then Some way else None)) (chain-way leads r r rest count ring.chain ring.once.0 (ring-few leads count r rest below ring))
+      ap (option_and_then (λ way. if list_all (nat_le r) way then Some way else None)) (chain-way (onto leads) r r rest count ring.chain ring.once.0 (ring-few leads count r rest below ring))
       ∙ ap (λ b. if b then Some (r ∷ rest) else None) (least (r ∷ rest) (λ c on. on))
 
   -- the circle was taken
@@ -199,12 +200,12 @@ module _ (leads left : List (Option ℕ)) (counts : List ℕ) (r : ℕ) (t : IsT
     ring = λ v x is. t.ring v x (was v x is);
     closed = λ v x come none is.
         elim (cases_Bool (is_on v (r ∷ rest))) [
-          | inl on ↦ took.gone x (stays-on leads r rest ring.chain x v on (here v is))
+          | inl on ↦ took.gone x (stays-on (onto leads) r rest ring.chain x v on (here v is))
           | inr off ↦ still x (t.closed v x come (sym (took.left_out v off) ∙ none) is)
         ];
     earlier = λ v none come.
         elim (cases_Bool (is_on v (r ∷ rest))) [
-          | inl on ↦ (r, omega arith, comes-home leads r v r rest ring.chain on)
+          | inl on ↦ (r, omega arith, comes-home (onto leads) r v r rest ring.chain on)
           | inr off ↦ let e = t.earlier v (sym (took.left_out v off) ∙ none) come in (e.0, omega (arith, e.1), e.2)
         ];
     passed = λ s less.

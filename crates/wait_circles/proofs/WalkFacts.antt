@@ -16,7 +16,8 @@ use Rattle.wait_circles.specs.Inner.Leading.{onto, tokens}
 use Rattle.wait_circles.specs.Inner.Meeting.{IsOnce, is_on}
 use Rattle.wait_circles.specs.Inner.Telling.{AreTelling, AreTold, IsRing, IsTelling, IsWalking, LeadBelow, TakesCircle, TakesRing, WalksCircle, circles_below, first_or}
 use Rattle.wait_circles.proofs.LeadFacts.{no-some, onto-below}
-use Rattle.wait_circles.proofs.RingFacts.{LeadsTo, on-own, on-more, tokens-together}
+use Rattle.wait_circles.proofs.ChainFacts.{LeadsTo, on-more, on-own}
+use Rattle.wait_circles.proofs.RingFacts.{tokens-together}
 use Rattle.wait_circles.proofs.TellFacts.{circle-none, circle-some, ring-left, telling-none, telling-taken}
 
 -- ---- parts of a list
@@ -33,7 +34,7 @@ once-behind (x ∷ xs) v ys once =
     or_from (nat_eq v x) (is_on v xs) (ne_eqb v x (λ same. false≢true (sym other ∙ eq-eqb x v (sym same)))) (once-behind xs v ys once.1)
 
 -- where a number of a chain leads: to the next of it, or home
-chain-next : (leads : List (Option ℕ)) (home : ℕ) (xs : List ℕ) (v : ℕ) (ys : List ℕ) → LeadsTo leads home (xs ++ v ∷ ys) → onto leads v ≡ Some (first_or home ys)
+chain-next : (leads : List (Option ℕ)) (home : ℕ) (xs : List ℕ) (v : ℕ) (ys : List ℕ) → LeadsTo (onto leads) home (xs ++ v ∷ ys) → onto leads v ≡ Some (first_or home ys)
 chain-next leads home [] v [] chain = chain
 chain-next leads home [] v (y ∷ ys) chain = chain.0
 chain-next leads home (x ∷ []) v ys chain = chain-next leads home [] v ys chain.1
@@ -84,7 +85,7 @@ module _ (leads left now : List (Option ℕ)) (counts : List ℕ) (home v total 
       let those : w.to_come ≡ v ∷ more = is ∙ ap (λ k. k ∷ more) (sym same) in
       let s = still v more those in
       let whole : home ∷ w.rest ≡ w.walked ++ v ∷ more = w.parts ∙ ap (λ l. w.walked ++ l) those in
-      let goes = chain-next leads home w.walked v more (subst (LeadsTo leads home) whole w.ring.chain) in
+      let goes = chain-next leads home w.walked v more (subst (LeadsTo (onto leads) home) whole w.ring.chain) in
       let one : Some s.1.0 ≡ Some next = sym s.1.1 ∙ at in
       let other : Some s.1.0 ≡ Some (first_or home more) = sym s.1.2 ∙ goes in
       (more, those, (let e = sym one ∙ other in cc (e)), s.0)

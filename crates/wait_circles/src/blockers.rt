@@ -1,6 +1,5 @@
 // That for which processes wait.
-ghost use Rattle.std.specs.Prelude.{◌≡◌, ℕ, ◌+◌, ◌<◌, ◌≤◌, ◌^◌, ◌++◌, length, option_to_list, slice_index, slice_set, IfOk, OnOk};
-ghost use Rattle.text_groups.specs.Sorting.{most_first};
+ghost use Rattle.std.specs.Prelude.{◌≡◌, ◌+◌, ◌<◌, ◌≤◌, ◌++◌, length, option_to_list, slice_index, slice_set, IfOk, OnOk};
 ghost use Rattle.wait_circles.specs.Inner.Leading.{CountsTokens, LeadWithin};
 ghost use Rattle.wait_circles.specs.Inner.Blocking.{AreLeft, CountsAll, node_blocker, node_blockers};
 

@@ -1,7 +1,6 @@
 // The circles that are left when all other numbers were peeled off.
-ghost use Rattle.std.specs.Prelude.{◌≡◌, ℕ, List, ◌+◌, ◌-◌, ◌<◌, ◌≤◌, ◌^◌, ◌++◌, ◌∷◌, All, cond, drop, length, map, Some, None, IfOk, OnOk};
-ghost use Rattle.std.specs.List.{sum_by};
-ghost use Rattle.wait_circles.specs.Circles.{circle_from, members, numbered};
+ghost use Rattle.std.specs.Prelude.{◌≡◌, ℕ, ◌+◌, ◌-◌, ◌<◌, ◌≤◌, ◌^◌, All, cond, drop, length, map, Some, None, IfOk, OnOk};
+ghost use Rattle.wait_circles.specs.Circles.{numbered};
 ghost use Rattle.wait_circles.specs.Inner.Leading.{onto};
 ghost use Rattle.wait_circles.specs.Inner.Peeling.{ArePeeling, IsPeeledUpto};
 ghost use Rattle.wait_circles.specs.Inner.Telling.{AreTold, AreTelling, LeadBelow, TakesCircle, WalksCircle, circles_below};

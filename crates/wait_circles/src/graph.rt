@@ -1,9 +1,9 @@
 // Who waits for whom.
-ghost use Rattle.std.specs.Prelude.{◌≡◌, ℕ, List, ◌+◌, ◌<◌, ◌≤◌, ◌^◌, length, slice_get, Some, IfOk, OnOk};
+ghost use Rattle.std.specs.Prelude.{◌≡◌, ◌<◌, ◌≤◌, ◌^◌, length, IfOk};
 ghost use Rattle.wait_circles.specs.Circles.{numbered};
 ghost use Rattle.wait_circles.specs.Report.{wait_report};
-ghost use Rattle.wait_circles.specs.Inner.Leading.{CountsTokens, LeadWithin};
-ghost use Rattle.wait_circles.specs.Inner.Blocking.{CountsAll, node_blockers};
+ghost use Rattle.wait_circles.specs.Inner.Leading.{LeadWithin};
+ghost use Rattle.wait_circles.specs.Inner.Blocking.{CountsAll};
 ghost use Rattle.wait_circles.specs.Inner.Telling.{LeadBelow, circles_below};
 
 use crate::blocker::Blocker;

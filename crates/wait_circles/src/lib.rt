@@ -33,6 +33,6 @@ mod waiting;
 
 pub use blocker::Blocker;
 pub use graph::WaitGraph;
-pub use laws::comes_is_least;
+pub use laws::{all_on_a_circle, circles_are_all, comes_is_least};
 pub use on_circle::OnCircle;
 pub use waiting::Waiting;

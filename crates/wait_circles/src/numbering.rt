@@ -1,8 +1,6 @@
 // The numbers of that for which processes wait.
-ghost use Rattle.std.specs.Prelude.{◌≡◌, ℕ, List, ◌+◌, ◌<◌, ◌≤◌, ◌^◌, ◌++◌, ◌∷◌, [], length, Some, None, IfOk, OnOk};
-ghost use Rattle.std.specs.Option.{option_copied};
+ghost use Rattle.std.specs.Prelude.{◌≡◌, ℕ, List, ◌<◌, ◌^◌, length, Some, None, IfOk};
 ghost use Rattle.text_groups.specs.Numbers.{IsGrown};
-ghost use Rattle.wait_circles.specs.Waiters.{target_at};
 ghost use Rattle.wait_circles.specs.Inner.Leading.{LeadWithin};
 ghost use Rattle.wait_circles.specs.Inner.Numbering.{node_of, AreNumbered, IsLead, IsNumbered};
 

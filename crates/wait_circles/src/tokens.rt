@@ -1,7 +1,7 @@
 // Numbers that lead to others, and how many come to each.
-ghost use Rattle.std.specs.Prelude.{◌≡◌, ℕ, ◌+◌, ◌<◌, ◌≤◌, ◌^◌, ◌++◌, length, slice_index, Some, None, IfOk, IfSome, OnOk, IfNone};
-ghost use Rattle.wait_circles.specs.Inner.Leading.{onto, tokens, CountsLead, CountsTokens, LeadWithin};
-ghost use Rattle.wait_circles.specs.Inner.Peeling.{ArePeeling, IsPeeledUpto, PeelsOne, leads_left};
+ghost use Rattle.std.specs.Prelude.{◌≡◌, ◌+◌, ◌<◌, ◌^◌, length, slice_index, Some, None, IfOk, IfSome};
+ghost use Rattle.wait_circles.specs.Inner.Leading.{tokens, CountsLead, CountsTokens, LeadWithin};
+ghost use Rattle.wait_circles.specs.Inner.Peeling.{ArePeeling, IsPeeledUpto, PeelsOne};
 
 use std::alloc::{AllocError, Global};
 

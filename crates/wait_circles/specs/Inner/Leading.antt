@@ -2,7 +2,7 @@
 use Rattle.std.specs.Prelude.{◌≡◌, ℕ, ◌+◌, ◌<◌, Bool, cond, false, ◌&&◌, not, ◌==◌, List, length, Option, None, Some, slice_index, slice_index_or, count_by}
 use Rattle.std.specs.Option.{option_map_or}
 use Rattle.wait_circles.specs.Steps.{some_within, upto}
-use Rattle.wait_circles.specs.Inner.Meeting.{Meets}
+use Rattle.wait_circles.specs.Inner.Meeting.{ComesBy}
 
 -- to which number another leads; past the last one, to none
 abbrev pub onto : List (Option ℕ) → ℕ → Option ℕ
@@ -18,7 +18,7 @@ tokens places v = count_by (is_to v) places
 
 -- one number comes to another: it leads to it, or to one that comes to it
 abbrev pub Comes : List (Option ℕ) → ℕ → ℕ → Type 0
-Comes leads r v = Meets (onto leads) (λ u. onto leads u ≡ Some v) r
+Comes leads r v = ComesBy (onto leads) r v
 
 -- whether one number comes to another
 abbrev pub reaches : List (Option ℕ) → ℕ → ℕ → Bool

@@ -7,6 +7,10 @@ pub data Meets (next : ℕ → Option ℕ) (Last : ℕ → Type 0) : ℕ → Typ
   here : (r : ℕ) → Last r → Meets next Last r
   later : (r s : ℕ) → next r ≡ Some s → Meets next Last s → Meets next Last r
 
+-- one number comes to another: its next is it, or its next comes to it
+abbrev pub ComesBy : (ℕ → Option ℕ) → ℕ → ℕ → Type 0
+ComesBy next r v = Meets next (λ u. next u ≡ Some v) r
+
 -- whether a number is one of these
 abbrev pub is_on : ℕ → List ℕ → Bool
 is_on v vs = list_any (nat_eq v) vs
