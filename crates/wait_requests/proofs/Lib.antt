@@ -1,0 +1,13 @@
+pub mod AskedFacts
+pub mod Examples
+pub mod ExternalFacts
+pub mod HeapFacts
+pub mod HeldFacts
+pub mod LongFacts
+pub mod PayloadFacts
+pub mod PlaceFacts
+pub mod PoolFacts
+pub mod SlotFacts
+pub mod TailFacts
+pub mod TextFacts
+pub mod WaitFacts

@@ -1,0 +1,4 @@
+pub mod Held
+pub mod Inner
+pub mod References
+pub mod Waits
