@@ -1,8 +1,10 @@
 -- What `peek` has read: of a heap of any size the lines that the shown terms need.
-use Rattle.std.proofs.Common.{◌*◌, ◌++◌, ◌+◌, ◌∙◌, ◌∷◌, ◌≡◌, ◌≤◌, [], ap, append-nil, append_assoc, ap₂, arith, length, min, refl, subst, suc, sym, take, zero, Bool, Err, List, None, Ok, Option, Result, Some, ℕ}
+use Rattle.std.proofs.Common.{◌*◌, ◌++◌, ◌+◌, ◌∙◌, ◌∷◌, ◌≡◌, ◌≤◌, [], ap, append-nil, ap₂, arith, length, min, refl, subst, sym, take, Bool, Err, List, None, Ok, Option, Result, Some, ℕ}
 use Rattle.std.specs.Prelude.{codes, decimal, slice_get, Contains, IfErr, IfOk, IsErrAnd}
 use Rattle.std.specs.Option.{option_or}
+use Rattle.std.proofs.lemmas.Grind.{flat_map-append}
 use Rattle.std.proofs.lemmas.List.Elements.{Contains-append_right}
+use Rattle.dump_io.specs.Laws.Lists.{take-at}
 use Rattle.dump_io.specs.Dumps.{DeviceState, ReadsAtMost}
 use Rattle.dump_io.specs.Laws.Reads.{ReadsAtMost-then}
 use Rattle.dump_io.specs.Limits.{Numbers}
@@ -213,13 +215,9 @@ ReadsFor-peeked pid addr text limits index old new terms nodes seen (Err stop) t
 -- the elements of the first roots, and of the next one
 pub elements-more : (roots : List BodyRoot) (i : ℕ) (root : BodyRoot) → slice_get roots i ≡ Some root
     → root_elements (take (i + 1) roots) ≡ root_elements (take i roots) ++ term_in root.content
-elements-more [] i root is = cc
-elements-more (r ∷ roots) zero root is =
-    let same : r ≡ root = cc in append-nil (term_in r.content) ∙ ap (λ x. term_in x.content) same
-elements-more (r ∷ roots) (suc i) root is =
-    let more : suc i + 1 ≡ suc (i + 1) = omega arith in
-    ap (λ n. root_elements (take n (r ∷ roots))) more
-    ∙ ap (λ l. term_in r.content ++ l) (elements-more roots i root is) ∙ sym (append_assoc (term_in r.content) (root_elements (take i roots)) (term_in root.content))
+elements-more roots i root is =
+    ap root_elements (take-at roots i root is) ∙ flat_map-append (λ r. term_in r.content) (take i roots) (root ∷ [])
+    ∙ ap (λ l. root_elements (take i roots) ++ l) (append-nil (term_in root.content))
 
 module _ (one other : Element → List ℕ) where
   -- these elements have the same answers

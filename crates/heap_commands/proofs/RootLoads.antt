@@ -1,11 +1,10 @@
 -- What the questions over the roots of a process have read.
 use Rattle.dump_sections.specs.declared.bodies.BodyFault.TheVariants as body_faults
-use Rattle.std.proofs.Common.{◌++◌, ◌∙◌, ◌≡◌, [], ap, arith, refl, subst, sym, Err, List, None, Ok, Option, Result, Some, ℕ}
+use Rattle.std.proofs.Common.{◌∙◌, ◌≡◌, [], ap, arith, refl, sym, Err, List, None, Ok, Option, Result, Some, ℕ}
 use Rattle.std.specs.Prelude.{is_some, unwrap_or, IfOk, IsSome, MatchResult}
 use Rattle.std.specs.Global.{Vec}
-use Rattle.dump_sections.specs.Bodies.{body_in, body_start, section_in}
+use Rattle.dump_sections.specs.Bodies.{body_in, body_start}
 use Rattle.dump_sections.specs.Index.{index_of, sections_in, Contents}
-use Rattle.dump_sections.specs.Lookups.{first_named}
 use Rattle.dump_sections.specs.Sections.{Section}
 use Rattle.heap_cells.specs.HeapMap.{HeapMap}
 use Rattle.heap_cells.specs.Loading.{heap_bodies}
@@ -17,7 +16,6 @@ use Rattle.dump_sections.specs.declared.bodies.BodyFault.{BodyFault}
 use Rattle.term_unfold.specs.DumpWalks.{walk_of}
 use Rattle.term_unfold.specs.Walks.{Walk}
 use Rattle.root_views.specs.declared.kinds.RootKind.{RootKind}
-use Rattle.root_views.specs.Kinds.{roots_tag}
 use Rattle.root_views.specs.Sections.{root_bodies, root_section}
 use Rattle.dump_questions.specs.Meaning.{no_body, part_in, Part}
 use Rattle.heap_commands.specs.Rows.{cells_row, ext_row, Rooted}
@@ -45,11 +43,6 @@ module _ (before after : DeviceState) where
   AreUnread-refused ss limit body_faults.Memory cause = tt
   AreUnread-refused ss limit (body_faults.SectionTooLarge at len) cause = ap is_some cause
 
--- a section that was found by the tag of its kind is that with the roots of the process
-pub roots-found : (kind : RootKind) (pid tag : List ℕ) (index : Contents) (place : Option ℕ) → tag ≡ roots_tag kind
-    → section_in index place ≡ first_named tag pid (sections_in index) → section_in index place ≡ root_section kind pid (sections_in index)
-roots-found kind pid tag index place tagged is = is ∙ ap (λ t. first_named t pid (sections_in index)) tagged
-
 -- the sections at the places are those with the roots of the process
 pub roots-at : (pid : List ℕ) (index : Contents) (places : RootPlaces) → ArePlaces pid index places → roots_at index places ≡ root_bodies pid (sections_in index)
 roots-at pid index places of = rw (of.stack, of.dict, of.mail) refl
@@ -66,18 +59,7 @@ rooted walk part = record { walk = walk; part = part }
 pub roots-told : (kind : RootKind) (pid bytes : List ℕ) (index : Contents) (walk : Walk) (body : Body) → index ≡ index_of bytes → walk ≡ walk_of pid bytes
     → body.base ≡ body_start (root_section kind pid (sections_in index)) → body.bytes.items ≡ body_in bytes (root_section kind pid (sections_in index))
     → rooted walk (shown_body body) ≡ rooted (walk_of pid bytes) (part_in (root_section kind pid) bytes)
-roots-told kind pid bytes index walk body is walked base held =
-    rw (walked, base, held)
-    (ap (λ i. rooted (walk_of pid bytes) (record { base = body_start (root_section kind pid (sections_in i)); bytes = body_in bytes (root_section kind pid (sections_in i)) })) is)
-
--- three calls add what three bodies hold, each behind what came before
-pub added-three : {R B X : Type 0} (Is : R → List X → Type 0) (f g h : B → List X) (a b c d : R) (first second third x y z : B)
-    → first ≡ x → second ≡ y → third ≡ z → Is a []
-    → ((xs : List X) → Is a xs → Is b (xs ++ f first)) → ((xs : List X) → Is b xs → Is c (xs ++ g second)) → ((xs : List X) → Is c xs → Is d (xs ++ h third))
-    → Is d ((f x ++ g y) ++ h z)
-added-three Is f g h a b c d first second third x y z one two three none add_first add_second add_third =
-    subst (Is d) (ap (λ v. (f v ++ g second) ++ h third) one ∙ ap (λ v. (f x ++ g v) ++ h third) two ∙ ap (λ v. (f x ++ g y) ++ h v) three)
-    (add_third (f first ++ g second) (add_second (f first) (add_first [] none)))
+roots-told kind pid bytes index walk body is walked base held = rw (walked, base, held, is) refl
 
 -- ---- the questions that end with the heap
 

@@ -1,25 +1,27 @@
 // `peek`: terms of a heap of any size.
-ghost use Rattle.std.specs.Prelude.{◌≡◌, ◌-◌, ◌<◌, ◌≤◌, [], ◌∷◌, ◌++◌, map, None, All, IfErr, IfOk, OnOk};
+ghost use Rattle.std.specs.Prelude.{◌≡◌, ◌-◌, ◌<◌, ◌≤◌, [], ◌++◌, map, None, IfErr, IfOk, OnOk};
 ghost use Rattle.binary_refs.specs.Previews.{AreFor};
 ghost use Rattle.dump_io.specs.Dumps.{ReadsAtMost};
 ghost use Rattle.dump_io.specs.Faults.{IsReadCauseOf};
 ghost use Rattle.dump_sections.specs.Bodies.{body_size, section_in, IsPlaceIn};
-ghost use Rattle.dump_sections.specs.Index.{IsBuiltOver};
+ghost use Rattle.dump_sections.specs.Index.{sections_in, IsBuiltOver};
 ghost use Rattle.heap_parts.specs.Wholes.{is_known, text_size, HasLines, ServesLines};
 ghost use Rattle.root_views.specs.Seen.{content};
-ghost use Rattle.root_views.specs.Shown.{IsPlaced};
 ghost use Rattle.term_forms.specs.Seen.{element};
 ghost use Rattle.root_views.specs.Roots.{term_in};
 ghost use Rattle.term_text.specs.Cuts.{cut_report};
 ghost use Rattle.term_text.specs.Reach.{root_elements};
-ghost use Rattle.term_text.specs.Roots.{answer_over, shown_report, term_report};
-ghost use Rattle.heap_commands.specs.Inner.Loads.{unknown_cause, walk_in, AreAnswered, AreRootsFound, GivesPart, ReadsPart};
-ghost use Rattle.dump_questions.specs.Reading.{StopsFor};
+ghost use Rattle.term_text.specs.Roots.{answer_over, term_report};
+ghost use Rattle.heap_commands.specs.Inner.Loads.{seen_shown, shown_row, unknown_cause, walk_in, AreAnswered, AreRootsFound};
+ghost use Rattle.heap_commands.specs.Inner.Loads.{FitsRoots, GivesPart, ReadsPart};
+ghost use Rattle.dump_questions.specs.Meaning.{no_process};
+ghost use Rattle.dump_questions.specs.Reading.{ReadsFor, StopsFor};
 ghost use Rattle.dump_questions.specs.Stops.{Judges};
 ghost use Rattle.heap_commands.specs.Rows.{peek_roots_row, peek_term_row};
 ghost use Rattle.dump_questions.specs.Runs.{Runs};
 ghost use Rattle.dump_questions.specs.Tasks.{question};
 
+use crate::roots::place_of;
 use binary_refs::Previews;
 use dump_io::{Dumps, ReadFault, Sink};
 use dump_questions::status::DONE;
@@ -221,25 +223,43 @@ fn load_for_roots<D: Dumps>(
     load_terms(at, dumps, pid, None, &terms, nodes)
 }
 
+// Loads the roots that are shown of a process that is there, and as much of its heap as they need.
+fn load_roots<D: Dumps>(
+    at: &Opened<'_>,
+    dumps: &mut D,
+    roots: &PeekRoots<'_>,
+) -> Result<RootsPart, Stop>
+    requires over { IsBuiltOver (D.state dumps.old).now at.now.index.now }
+    requires nodes { 0 < roots.now.nodes }
+    requires there { no_process roots.now.pid.now (sections_in at.now.index.now) ≡ None }
+    ensures reads { let index = at.now.index.now in ReadsFor (shown_row roots.now) at.now.limits.now index
+        (D.state dumps.old) (D.state dumps.new) (seen_shown roots.now index) result }
+    ensures fits { IfOk result FitsRoots }
+{
+    let place = place_of(at, roots.kind, roots.pid);
+    let (shown, base) = read_roots(at, dumps, place, roots)?;
+    let part = load_for_roots(at, dumps, roots.pid, &shown, roots.nodes)?;
+    Ok(RootsPart {
+        roots: shown,
+        base,
+        part,
+    })
+}
+
 impl Report for PeekRoots<'_> {
     type Loaded = RootsPart;
 
-    ghost means = { λ c. peek_roots_row c.kind c.pid.now c.first c.count c.nodes c.marked };
+    ghost means = { λ c. shown_row c };
 
-    ghost seen = { λ c index loaded. shown_report (answer_over (walk_in loaded.part) c.nodes c.marked)
-        loaded.base loaded.roots.shown loaded.roots.count ++ cut_report index c.pid.now (c.kind ∷ []) };
+    ghost seen = { λ c index loaded. seen_shown c index loaded };
 
     ghost asked = { λ c. (0 < c.nodes) × (1 ≤ c.count) × (c.count ≤ 1000) };
 
-    ghost fits = { λ _ _ loaded. AreFor loaded.part.heap.cells loaded.part.previews
-        × All (IsPlaced loaded.base) loaded.roots.shown };
+    ghost fits = { λ _ _ loaded. FitsRoots loaded };
 
     fn read<D: Dumps>(&self, at: &Opened<'_>, dumps: &mut D) -> Result<RootsPart, Stop> {
         find_process(at, self.pid)?;
-        let place = at.index.first(self.kind.tag(), Some(self.pid));
-        let (roots, base) = read_roots(at, dumps, place, self)?;
-        let part = load_for_roots(at, dumps, self.pid, &roots, self.nodes)?;
-        Ok(RootsPart { roots, base, part })
+        load_roots(at, dumps, self)
     }
 
     fn put<K: Sink>(&self, at: &Opened<'_>, loaded: &RootsPart, out: &mut K) -> Result<u8, Stop> {

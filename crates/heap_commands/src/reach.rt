@@ -1,16 +1,15 @@
 // `reach`: which cells of a process's heap its roots reach.
-ghost use Rattle.std.specs.Prelude.{◌≡◌, ◌<◌, [], length, IfOk, IfErr, IfSome};
+ghost use Rattle.std.specs.Prelude.{◌≡◌, [], IfOk, IfErr};
 ghost use Rattle.dump_io.specs.Dumps.{ReadsAtMost};
-ghost use Rattle.dump_sections.specs.Index.{sections_in, IsBuiltOver};
+ghost use Rattle.dump_sections.specs.Index.{IsBuiltOver};
 ghost use Rattle.dump_sections.specs.Loading.{bodies_length, large_fault};
-ghost use Rattle.dump_sections.specs.Bodies.{section_in};
 ghost use Rattle.heap_reach.specs.Rounds.{IsReachOf};
-ghost use Rattle.root_views.specs.Sections.{root_section};
 ghost use Rattle.heap_commands.specs.Inner.Loads.{roots_at, seen_reach, terms_loaded, ArePlaces, AreUnread, AreWithin, HoldsRoots};
 ghost use Rattle.heap_commands.specs.Rows.{reach_row};
 ghost use Rattle.dump_questions.specs.Runs.{Runs};
 ghost use Rattle.dump_questions.specs.Tasks.{question};
 
+use crate::roots::place_of;
 use dump_io::{Dumps, Sink};
 use dump_questions::status::DONE;
 use dump_questions::{Body, Opened, Report, Stop, Unopened, load_behind, read_found, run_report};
@@ -45,15 +44,6 @@ pub struct RootBodies {
 pub struct ReachedHeap {
     heap: Heap,
     roots: RootBodies,
-}
-
-// Finds the section with the roots of one kind.
-fn place_of(at: &Opened<'_>, kind: RootKind, pid: &[u8]) -> Option<usize>
-    ensures section { let index = at.now.index.now in
-        section_in index result ≡ root_section kind pid.now (sections_in index) }
-    ensures within { IfSome result (λ i. i < length at.now.index.now.headers) }
-{
-    at.index.first(kind.tag(), Some(pid))
 }
 
 // Finds the sections with the roots of a process.

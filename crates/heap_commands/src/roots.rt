@@ -1,6 +1,9 @@
 // `stack`, `dict` and `mail`: the roots of a process.
-ghost use Rattle.std.specs.Prelude.{◌<◌};
+ghost use Rattle.std.specs.Prelude.{◌≡◌, ◌<◌};
 ghost use Rattle.binary_refs.specs.Previews.{AreFor};
+ghost use Rattle.dump_sections.specs.Bodies.{section_in, IsPlaceIn};
+ghost use Rattle.dump_sections.specs.Index.{sections_in};
+ghost use Rattle.root_views.specs.Sections.{root_section};
 ghost use Rattle.dump_questions.specs.Bodies.{HasPlaces};
 ghost use Rattle.heap_commands.specs.Inner.Loads.{seen_roots};
 ghost use Rattle.heap_commands.specs.Rows.{roots_row};
@@ -32,6 +35,15 @@ pub struct HeapAndRoots {
     previews: Previews,
 }
 
+// Finds the section with the roots of one kind of a process.
+pub(crate) fn place_of(at: &Opened<'_>, kind: RootKind, pid: &[u8]) -> Option<usize>
+    ensures section { let index = at.now.index.now in
+        section_in index result ≡ root_section kind pid.now (sections_in index) }
+    ensures within { IsPlaceIn at.now.index.now result }
+{
+    at.index.first(kind.tag(), Some(pid))
+}
+
 impl Report for Roots<'_> {
     type Loaded = HeapAndRoots;
 
@@ -45,7 +57,7 @@ impl Report for Roots<'_> {
         HasPlaces loaded.body × AreFor loaded.heap.cells loaded.previews };
 
     fn read<D: Dumps>(&self, at: &Opened<'_>, dumps: &mut D) -> Result<HeapAndRoots, Stop> {
-        let place = at.index.first(self.kind.tag(), Some(self.pid));
+        let place = place_of(at, self.kind, self.pid);
         let heap = load_heap(at, dumps, self.pid, place)?;
         let previews = Previews::load(at.alloc, dumps, at.index, &heap)?;
         let body = read_found(at, dumps, place)?;

@@ -18,7 +18,7 @@ use serde_json::Value;
 use std::alloc::{AllocError, Global};
 
 /// Why a JSON text isn't written.
-#[derive(Clone, Copy, Debug, PartialEq, Eq)]
+#[derive(Clone, Copy, Debug)]
 pub enum JsonFault {
     /// A write failed. Returned only if the sink's count of
     /// faults rose; a proper prefix of the text was written.

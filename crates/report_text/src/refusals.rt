@@ -10,7 +10,7 @@ use report_lines::put_line;
 use section_index::OpenFault;
 
 /// Why a command is refused.
-#[derive(Debug, Drop)]
+#[derive(Drop)]
 pub enum Refusal {
     /// The dump wasn't opened.
     Open(OpenFault),

@@ -33,7 +33,4 @@ version_text-named id version is =
 -- what is known of the index of a dump and of its first body is what `info` tells
 pub overview-told : (bytes : List ℕ) (index : Contents) (body : Body) → IsIndexOf bytes index → index ≡ index_of bytes → body.bytes.items ≡ body_in bytes (section_in index (Some 0))
     → seen_overview index body ≡ overview_of bytes
-overview-told bytes index body of is held =
-    rw held (
-    ap (λ v. record { version = v; index = index; first = body_in bytes (section_in index (Some 0)) }) (version_text-named (first_id bytes) index.version of.version)
-    ∙ ap (λ i. record { version = first_id bytes; index = i; first = body_in bytes (section_in i (Some 0)) }) is)
+overview-told bytes index body of is held = rw (held, version_text-named (first_id bytes) index.version of.version, is) refl

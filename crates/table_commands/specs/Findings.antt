@@ -1,5 +1,5 @@
 -- The text of the report of an audit. Offsets are of the file.
-use Rattle.std.specs.Prelude.{ℕ, Bool, List, [], ◌∷◌, ◌++◌, length, decimal, codes}
+use Rattle.std.specs.Prelude.{ℕ, Bool, List, [], ◌∷◌, ◌++◌, length, decimal, codes, None, Option, Some}
 use Rattle.std.specs.List.{flat_map}
 use Rattle.dump_sections.specs.Index.{Contents, sections_in, dump_state}
 use Rattle.process_table.specs.Processes.{Process}
@@ -26,14 +26,22 @@ view_parts v = v.word ∷ v.pid ∷ (named_parts v.named ++ (decimal v.at ∷ de
 abbrev pub finding_line : List Process → Finding → List ℕ
 finding_line ps finding = line_of word_space (view_parts (view_of ps finding))
 
--- the report of some findings on a dump with these sections and processes: their lines, their number, and the state
-abbrev pub findings_report : Contents → List Process → List Finding → List ℕ
-findings_report index processes found =
-    flat_map (finding_line processes) found ++ (total_line (codes "findings") (length found) ++ state_line (sections_in index) (dump_state index.headers))
+-- the line with how many findings are in flight, if that is told
+abbrev pub flight_line : Option ℕ → List ℕ
+flight_line None = []
+flight_line (Some count) = total_line (codes "in-flight") count
+
+-- the report of some findings on a dump with this index and these processes: their lines, their
+-- number, how many others are in flight, if that is told, and the state
+abbrev pub findings_report : Contents → List Process → List Finding → Option ℕ → List ℕ
+findings_report index processes found others =
+    flat_map (finding_line processes) found
+    ++ (total_line (codes "findings") (length found)
+    ++ (flight_line others ++ state_line (sections_in index) (dump_state index.headers)))
 
 -- the report of `audit`
 abbrev pub audit_report : Audit → List ℕ
-audit_report a = findings_report a.index a.processes (findings a)
+audit_report a = findings_report a.index a.processes (findings a) None
 
 -- an audit, and for each of its processes whether signals wait for it
 pub record SettledAudit : Type 0 where
@@ -44,14 +52,7 @@ pub record SettledAudit : Type 0 where
 abbrev pub settled_findings : SettledAudit → List Finding
 settled_findings a = settled a.signalled (findings a.audit)
 
--- the report of some findings beside which there are so many in flight: their lines, both numbers, and the state
-abbrev pub settled_lines : Contents → List Process → List Finding → ℕ → List ℕ
-settled_lines index processes found others =
-    flat_map (finding_line processes) found
-    ++ (total_line (codes "findings") (length found)
-    ++ (total_line (codes "in-flight") others ++ state_line (sections_in index) (dump_state index.headers)))
-
 -- the report of `audit-settled`
 abbrev pub settled_report : SettledAudit → List ℕ
 settled_report a =
-    settled_lines a.audit.index a.audit.processes (settled_findings a) (length (in_flight a.signalled (findings a.audit)))
+    findings_report a.audit.index a.audit.processes (settled_findings a) (Some (length (in_flight a.signalled (findings a.audit))))

@@ -34,7 +34,7 @@ use Rattle.json_report.specs.Trees.{audit_tree, json_text}
 -- the first section, the first one on memory, those of the processes, those of the ETS tables and those of the ports
 abbrev pub triage_sections : List Section → List Section
 triage_sections sections =
-    (((first_body sections ++ memory_body sections) ++ record_sections sections) ++ listed Ets sections) ++ listed PortUses sections
+    first_body sections ++ (memory_body sections ++ (record_sections sections ++ (listed Ets sections ++ listed PortUses sections)))
 
 -- the report on the fields of a section
 abbrev pub fields_of : Part → List ℕ
@@ -118,11 +118,11 @@ audit_row limit full = of_audit limit full audit_report
 abbrev pub settled_in : ℕ → Bool → List ℕ → SettledAudit
 settled_in limit full bytes = record { audit = audit_in limit full bytes; signalled = signalled_in bytes }
 
--- the lines of such an audit without the findings that are in flight
+-- the lines of an audit with this limit on message queues, in full or not, without the findings that are in flight
 abbrev pub audit_settled_row : ℕ → Bool → Meaning
 audit_settled_row limit full = record (of_bodies (audited_sections full) (settled_in limit full) settled_report) { found = Some settled_findings }
 
--- such an audit as one JSON text
+-- an audit with this limit on message queues, in full or not, as one JSON text
 abbrev pub audit_json_row : ℕ → Bool → Meaning
 audit_json_row limit full = of_audit limit full (λ audit. json_text (audit_tree audit))
 

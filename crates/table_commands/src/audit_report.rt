@@ -1,4 +1,4 @@
-// The report of `audit`.
+// The report of an audit.
 ghost use Rattle.std.specs.Prelude.{◌≡◌, All};
 ghost use Rattle.std.specs.List.{flat_map};
 ghost use Rattle.dump_io.specs.Sinks.{Puts};
@@ -6,7 +6,7 @@ ghost use Rattle.link_graph.specs.Graph.{graph_of};
 ghost use Rattle.dump_audit.specs.FindingViews.{shown_view};
 ghost use Rattle.dump_audit.specs.Fitting.{Fits};
 ghost use Rattle.report_lines.specs.Lines.{line_of, word_space};
-ghost use Rattle.table_commands.specs.Findings.{finding_line, findings_report, settled_lines, view_parts};
+ghost use Rattle.table_commands.specs.Findings.{finding_line, findings_report, flight_line, view_parts};
 
 use dump_audit::{Finding, FindingView, Named, view_of};
 use dump_io::{Failed, Piece, Sink};
@@ -74,43 +74,35 @@ fn put_all<K: Sink>(
     Ok(())
 }
 
+// Writes how many findings are in flight, if that is told.
+fn put_flight<K: Sink>(sink: &mut K, others: Option<u64>) -> Result<(), Failed>
+    ensures { Puts (K.state sink.old) (K.state sink.new) (flight_line others) result }
+{
+    match others {
+        Some(count) => put_total_line(sink, b"in-flight", count),
+        None => Ok(()),
+    }
+}
+
 /// Writes a line for each finding: its word, the pid of the process, what else it names, and its two
-/// offsets. Then come `findings N` and the state line, as by [`put_state`](report_lines::put_state). The
-/// graph is that of the processes, and the findings fit them, as those of [`audit`](dump_audit::audit) do.
+/// offsets. Then come `findings N`, with `Some(K)` others that aren't told `in-flight K`, and the state line,
+/// as by [`put_state`](report_lines::put_state). The graph is that of the processes, and the findings fit
+/// them, as those of [`audit`](dump_audit::audit) do.
 pub fn put_findings<K: Sink>(
     sink: &mut K,
     index: &Index,
     procs: &Procs,
     graph: &Graph<'_>,
     findings: &[Finding],
+    others: Option<u64>,
 ) -> Result<(), Failed>
     requires graph { graph.now ≡ graph_of procs.now.processes }
     requires fits { All (Fits procs.now.processes) findings.now }
     ensures { Puts (K.state sink.old) (K.state sink.new)
-        (findings_report index.now procs.now.processes findings.now) result }
+        (findings_report index.now procs.now.processes findings.now others) result }
 {
     put_all(sink, procs, graph, findings)?;
     put_total_line(sink, b"findings", findings.len() as u64)?;
-    put_state(sink, index)
-}
-
-/// Writes the lines of findings, as [`put_findings`] does, and `findings N` with their number; then
-/// `in-flight K`, where K is the number of others that aren't told, and the state line.
-pub fn put_settled<K: Sink>(
-    sink: &mut K,
-    index: &Index,
-    procs: &Procs,
-    graph: &Graph<'_>,
-    findings: &[Finding],
-    others: u64,
-) -> Result<(), Failed>
-    requires graph { graph.now ≡ graph_of procs.now.processes }
-    requires fits { All (Fits procs.now.processes) findings.now }
-    ensures { Puts (K.state sink.old) (K.state sink.new)
-        (settled_lines index.now procs.now.processes findings.now others) result }
-{
-    put_all(sink, procs, graph, findings)?;
-    put_total_line(sink, b"findings", findings.len() as u64)?;
-    put_total_line(sink, b"in-flight", others)?;
+    put_flight(sink, others)?;
     put_state(sink, index)
 }

@@ -11,9 +11,7 @@
 #![tactic(auto)]
 
 mod audit;
-mod audit_json;
 mod audit_report;
-mod audit_settled;
 mod field;
 mod fields;
 mod index;
@@ -27,10 +25,8 @@ mod tables;
 mod triage;
 mod trial;
 
-pub use audit::run_audit;
-pub use audit_json::run_audit_json;
-pub use audit_report::{put_findings, put_settled};
-pub use audit_settled::run_audit_settled;
+pub use audit::{run_audit, run_audit_json, run_audit_settled};
+pub use audit_report::put_findings;
 pub use field::run_field;
 pub use fields::run_fields;
 pub use index::run_index;

@@ -1,9 +1,10 @@
 // `triage`: what to read first of a dump.
 ghost use Rattle.std.specs.Prelude.{◌≡◌, ◌≤◌, length, None, IfOk};
+ghost use Rattle.dump_io.specs.Dumps.{IfTold};
 ghost use Rattle.dump_sections.specs.Index.{sections_in, IsBuiltOver};
 ghost use Rattle.dump_sections.specs.Loading.{large_fault, LoadsBodies};
 ghost use Rattle.table_commands.specs.Rows.{triage_row, triage_sections};
-ghost use Rattle.table_commands.specs.Inner.Loads.{seen_triage, AreFound, Fits, HoldsBodies};
+ghost use Rattle.table_commands.specs.Inner.Loads.{sections_found, seen_triage, AreFound, AreTablesOf, Fits};
 ghost use Rattle.dump_questions.specs.Bodies.{ReadsBodies};
 ghost use Rattle.dump_questions.specs.Runs.{Runs};
 ghost use Rattle.dump_questions.specs.Tasks.{question};
@@ -23,9 +24,9 @@ pub(crate) struct Triage {
     pub count: u32,
 }
 
-/// The places of the sections that a triage loads after the first one.
+// The places of the sections that a triage loads after the first one.
 #[derive(Drop)]
-pub struct Places {
+struct Places {
     memory: Option<usize>,
     procs: ProcSections,
     tables: TableSections,
@@ -64,7 +65,7 @@ fn find_places(at: &Opened<'_>) -> Result<Places, AllocError>
 fn large_section(at: &Opened<'_>, places: &Places) -> Option<LargeSection>
     requires some { 1 ≤ length at.now.index.now.headers }
     requires places { AreFound at.now.index.now places.now }
-    ensures { let sections = triage_sections (sections_in at.now.index.now) in
+    ensures { let sections = sections_found at.now.index.now places.now in
         result ≡ large_fault at.now.limits.now.section sections }
 {
     let first = large_body(at.index, Some(0), at.limits);
@@ -84,11 +85,12 @@ fn read_bodies<D: Dumps>(
     requires over { IsBuiltOver (D.state dumps.old).now at.now.index.now }
     requires some { 1 ≤ length at.now.index.now.headers }
     requires places { AreFound at.now.index.now places }
-    requires small { let sections = triage_sections (sections_in at.now.index.now) in
+    requires small { let sections = sections_found at.now.index.now places in
         large_fault at.now.limits.now.section sections ≡ None }
-    ensures reads { let sections = triage_sections (sections_in at.now.index.now) in
+    ensures reads { let sections = sections_found at.now.index.now places in
         ReadsBodies sections (D.state dumps.old) (D.state dumps.new) result }
-    ensures bodies { IfOk result (HoldsBodies at.now.index.now (D.state dumps.old).now) }
+    ensures bodies { IfOk result (λ loaded. IfTold (D.state dumps.old).now
+        (λ bytes. AreTablesOf at.now.index.now bytes loaded)) }
     ensures fits { IfOk result (Fits at.now.index.now) }
 {
     let first = read_found(at, dumps, Some(0))?;
@@ -107,19 +109,18 @@ fn read_bodies<D: Dumps>(
 }
 
 // Loads the bodies of a triage: all are judged before one is read.
-fn load_bodies<D: Dumps>(
-    at: &Opened<'_>,
-    dumps: &mut D,
-    places: Places,
-) -> Result<NodeTables, BodyFault>
+fn load_bodies<D: Dumps>(at: &Opened<'_>, dumps: &mut D) -> Result<NodeTables, BodyFault>
     requires over { IsBuiltOver (D.state dumps.old).now at.now.index.now }
     requires some { 1 ≤ length at.now.index.now.headers }
-    requires places { AreFound at.now.index.now places }
     ensures loads { let sections = triage_sections (sections_in at.now.index.now) in
         LoadsBodies D.state sections at.now.limits.now.section dumps.old dumps.new result }
-    ensures bodies { IfOk result (HoldsBodies at.now.index.now (D.state dumps.old).now) }
+    ensures bodies { IfOk result (λ loaded. IfTold (D.state dumps.old).now
+        (λ bytes. AreTablesOf at.now.index.now bytes loaded)) }
     ensures fits { IfOk result (Fits at.now.index.now) }
 {
+    let Ok(places) = find_places(at) else {
+        return Err(BodyFault::Memory);
+    };
     if let Some(large) = large_section(at, &places) {
         return Err(BodyFault::from(large));
     }
@@ -136,8 +137,7 @@ impl Report for Triage {
     ghost fits = { λ _ index loaded. Fits index loaded };
 
     fn read<D: Dumps>(&self, at: &Opened<'_>, dumps: &mut D) -> Result<NodeTables, Stop> {
-        let places = find_places(at)?;
-        or_stop(load_bodies(at, dumps, places))
+        or_stop(load_bodies(at, dumps))
     }
 
     fn put<K: Sink>(&self, at: &Opened<'_>, loaded: &NodeTables, out: &mut K) -> Result<u8, Stop> {

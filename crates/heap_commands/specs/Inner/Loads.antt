@@ -1,8 +1,9 @@
 -- From what the reports are written, and what is known of it.
 use Rattle.dump_questions.specs.Heaps.{address_cause, binary_count, heap_text_size}
-use Rattle.heap_commands.specs.Rows.{Entered, Rooted}
+use Rattle.heap_commands.specs.Rows.{peek_roots_row, Entered, Rooted}
+use Rattle.dump_questions.specs.Meaning.{Meaning}
 use Rattle.dump_questions.specs.Bodies.{shown_body}
-use Rattle.std.specs.Prelude.{◌*◌, ◌++◌, ◌+◌, ◌≡◌, ◌≤◌, [], length, min, All, Bool, Contains, IsSome, List, MatchResult}
+use Rattle.std.specs.Prelude.{◌*◌, ◌++◌, ◌+◌, ◌∷◌, ◌≡◌, ◌≤◌, [], length, min, All, Bool, Contains, IsSome, List, MatchResult}
 use Rattle.std.specs.Prelude.{None, Option, Result, Some, ℕ}
 use Rattle.std.specs.Option.{option_to_list}
 use Rattle.dump_io.specs.Limits.{Numbers}
@@ -20,8 +21,9 @@ use Rattle.heap_cells.specs.HeapMap.{HeapMap}
 use Rattle.heap_cells.specs.Loading.{heap_bodies}
 use Rattle.term_unfold.specs.DumpWalks.{walk_of}
 use Rattle.term_unfold.specs.Walks.{new_walk, Walk}
-use Rattle.term_text.specs.Roots.{answer_over}
-use Rattle.binary_refs.specs.Previews.{binaries}
+use Rattle.term_text.specs.Cuts.{cut_report}
+use Rattle.term_text.specs.Roots.{answer_over, shown_report}
+use Rattle.binary_refs.specs.Previews.{binaries, AreFor}
 use Rattle.root_views.specs.declared.kinds.RootKind.{RootKind}
 use Rattle.term_text.specs.Reach.{root_elements}
 use Rattle.term_unfold.specs.Parts.{answer_in, has_cell}
@@ -34,6 +36,8 @@ use Rattle.dump_sections.specs.declared.bodies.BodyFault.{BodyFault}
 use Rattle.dump_sections.specs.declared.bodies.BodyFault.TheVariants.{SectionTooLarge}
 use Rattle.dump_sections.specs.declared.bodies.LargeSection.{LargeSection}
 use Rattle.heap_commands.specs.declared.peek.HeapPart.{HeapPart}
+use Rattle.heap_commands.specs.declared.peek.PeekRoots.{PeekRoots}
+use Rattle.heap_commands.specs.declared.peek.RootsPart.{RootsPart}
 use Rattle.heap_commands.specs.declared.roots.HeapAndRoots.{HeapAndRoots}
 use Rattle.heap_commands.specs.declared.reach.RootPlaces.{RootPlaces}
 use Rattle.heap_commands.specs.declared.reach.RootBodies.{RootBodies}
@@ -96,6 +100,20 @@ pub record AreRootsFound (now : Now) (found : Option Section) (kind : RootKind) 
   pub base : roots.1 ≡ body_start found
   pub shown : IfTold now (λ dump. roots.0 ≡ shown_roots kind first most (body_in dump found))
   pub places : All (IsPlaced roots.1) roots.0.shown
+
+-- what `peek` with these words means
+abbrev pub shown_row : PeekRoots → Meaning
+shown_row t = peek_roots_row t.kind t.pid.now t.first t.count t.nodes t.marked
+
+-- the text that `peek` shows of some roots, by the index and what was loaded
+abbrev pub seen_shown : PeekRoots → Contents → RootsPart → List ℕ
+seen_shown t index loaded =
+    shown_report (answer_over (walk_in loaded.part) t.nodes t.marked) loaded.base loaded.roots.shown loaded.roots.count
+    ++ cut_report index t.pid.now (t.kind ∷ [])
+
+-- the previews are those of the part of the heap, and the roots stand in a file of at most 2^64 - 1 bytes
+abbrev pub FitsRoots : RootsPart → Type 0
+FitsRoots loaded = AreFor loaded.part.heap.cells loaded.part.previews × All (IsPlaced loaded.base) loaded.roots.shown
 
 -- the sections with roots that are at the places
 abbrev pub roots_at : Contents → RootPlaces → List Section

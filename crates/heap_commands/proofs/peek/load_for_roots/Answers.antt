@@ -1,6 +1,5 @@
-use Rattle.std.proofs.Common.{◌∙◌, ap, arith, map, rules, subst, List, None}
+use Rattle.std.proofs.Common.{◌∙◌, ap, arith, map, rules, None}
 use Rattle.dump_io.specs.Laws.Reads.{ReadsAtMost-none}
-use Rattle.term_forms.specs.Elements.{Element}
 use Rattle.term_forms.specs.Seen.{element}
 use Rattle.term_text.specs.Reach.{root_elements}
 use Rattle.heap_commands.specs.Inner.Loads.{GivesPart}
@@ -18,7 +17,4 @@ returns-in_err-terms-clause-gives g c =
     (Gives-stopped c.args.pid.now None terms c.args.nodes at.limits.now at.index.now state state NoMemory 0 (ReadsAtMost-none 0 (search rules)) (omega arith) tt)
 
 pub returns-clause-gives : goal.returns-clause-gives
-returns-clause-gives g c =
-    let at = c.args.at.now in
-    subst (λ (terms : List Element). GivesPart c.args.pid.now None terms c.args.nodes at.limits.now at.index.now
-    (g.D.Dumps.state c.args.dumps.now) (g.D.Dumps.state c.load_terms.new.dumps) c.load_terms.result) (ap (λ es. map element es) c.deref.ensures.value ∙ c.in_ok-terms.ensures) c.load_terms.ensures.gives
+returns-clause-gives g c = rw (ap (λ es. map element es) c.deref.ensures.value ∙ c.in_ok-terms.ensures) at c.load_terms.ensures.gives

@@ -7,9 +7,11 @@ use Rattle.table_commands.proofs.triage.load_bodies.Goals as goal
 pub returns-in-Some-clause-loads : goal.returns-in-Some-clause-loads
 returns-in-Some-clause-loads g c =
     let bodies = triage_sections (sections_in c.args.at.now.index.now) in
-    rw c.from.ensures (LoadsBodies-large g.D.Dumps.state bodies c.args.at.now.limits.now.section c.args.dumps.now _ (search rules) c.in-Some.ensures)
+    let found = c.in-Ok.ensures in
+    rw c.from.ensures (LoadsBodies-large g.D.Dumps.state bodies c.args.at.now.limits.now.section c.args.dumps.now _ (search rules) (rw (found.memory, found.kind, found.ports_kind) at c.in-Some.ensures))
 
 pub returns-clause-loads : goal.returns-clause-loads
 returns-clause-loads g c =
     let bodies = triage_sections (sections_in c.args.at.now.index.now) in
-    LoadsBodies-small g.D.Dumps.state bodies c.args.at.now.limits.now.section _ _ _ c.in_default.ensures c.read_bodies.ensures.reads
+    let found = c.in-Ok.ensures in
+    LoadsBodies-small g.D.Dumps.state bodies c.args.at.now.limits.now.section _ _ _ (rw (found.memory, found.kind, found.ports_kind) at c.in_default-large_section.ensures) (rw (found.memory, found.kind, found.ports_kind) at c.read_bodies.ensures.reads)

@@ -1,32 +1,17 @@
-use Rattle.std.proofs.Common.{ap, refl, Err}
-use Rattle.dump_io.specs.Laws.Puts.{Puts-as, Puts-stopped, Puts-then}
-use Rattle.term_text.specs.Roots.{answer_over, shown_report}
+use Rattle.std.proofs.Common.{refl, Err}
+use Rattle.dump_io.specs.Laws.Puts.{Puts-stopped, Puts-then}
 use Rattle.dump_questions.specs.Laws.Reading.{Tells-put, Tells-stopped}
 use Rattle.heap_commands.proofs.peek.PeekRootsReport.put.Goals as goal
 
 pub returns-in_err-put_shown_roots : goal.returns-in_err-put_shown_roots
 returns-in_err-put_shown_roots g c =
-    let t = c.args.self.now in
-    let loaded = c.args.loaded.now in
     Tells-stopped 0 c.from_residual-in_err-put_shown_roots.result c.from_residual-in_err-put_shown_roots.ensures.1
-    (Puts-stopped {T = Unit {0}} {E = Unit {0}} {r = Err tt} _ refl
-    (Puts-as (ap (λ walk. shown_report (answer_over walk t.nodes t.marked) loaded.base loaded.roots.shown loaded.roots.count) c.in_ok-walker.ensures)
-    c.in_err-put_shown_roots.ensures.puts))
+    (Puts-stopped {T = Unit {0}} {E = Unit {0}} {r = Err tt} _ refl (rw c.in_ok-walker.ensures at c.in_err-put_shown_roots.ensures.puts))
 
 pub returns-in_err-put_cuts : goal.returns-in_err-put_cuts
 returns-in_err-put_cuts g c =
-    let t = c.args.self.now in
-    let loaded = c.args.loaded.now in
     Tells-stopped 0 c.from_residual-in_err-put_cuts.result c.from_residual-in_err-put_cuts.ensures.1
-    (Puts-then
-    (Puts-as (ap (λ walk. shown_report (answer_over walk t.nodes t.marked) loaded.base loaded.roots.shown loaded.roots.count) c.in_ok-walker.ensures)
-    c.in_ok-put_shown_roots.ensures.puts) c.in_err-put_cuts.ensures)
+    (Puts-then (rw c.in_ok-walker.ensures at c.in_ok-put_shown_roots.ensures.puts) c.in_err-put_cuts.ensures)
 
 pub returns : goal.returns
-returns g c =
-    let t = c.args.self.now in
-    let loaded = c.args.loaded.now in
-    Tells-put
-    (Puts-then
-    (Puts-as (ap (λ walk. shown_report (answer_over walk t.nodes t.marked) loaded.base loaded.roots.shown loaded.roots.count) c.in_ok-walker.ensures)
-    c.in_ok-put_shown_roots.ensures.puts) c.in_ok-put_cuts.ensures)
+returns g c = Tells-put (Puts-then (rw c.in_ok-walker.ensures at c.in_ok-put_shown_roots.ensures.puts) c.in_ok-put_cuts.ensures)
