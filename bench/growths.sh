@@ -85,5 +85,10 @@ try shapes "$folder/texts" "<0.1.0>"
 try shapes "$folder/texts" "<0.1.0>" 10 pids
 "$folder/hostile" keys "$folder/keys" 100000 && "$folder/hostile" chain "$folder/chain" 200 || exit 1
 try weigh "$folder/keys" "<0.1.0>" 3 10
+try heavy "$folder/keys" "<0.1.0>"
+try heavy "$folder/texts" "<0.1.0>" 1000
 try path "$folder/chain" "<0.1.0>" 10
+"$folder/hostile" calls "$folder/calls" 20 && "$folder/hostile" slots "$folder/slots" 20 || exit 1
+try waits "$folder/calls" 3
+try waits "$folder/slots"
 exit "$failed"

@@ -40,6 +40,12 @@
 //   hostile chain FILE N      N tuples, each of which leads to the line before, and a root that refers to the last of them
 //   hostile one_cell FILE N   N messages of one cell
 //   hostile atoms FILE N      N messages, each a quoted atom of 255 bytes
+//   hostile requests FILE N   a process with N monitors, whose references differ in their last bytes, and which holds none of them
+//   hostile slots FILE N      a process with N monitors and as many words on its stack, which refer to as many references that are
+//                             none of theirs; an ordinary one holds what its words refer to
+//   hostile references FILE N a process with a monitor and a word on its stack, and a heap of N references at the address to which
+//                             that word refers
+//   hostile calls FILE N      N processes, each of which waits for the next one; of ordinary ones each waits for the first
 #include <stdio.h>
 #include <stdlib.h>
 #include <string.h>
@@ -264,11 +270,10 @@ static void numbers(FILE *f, long count) {
     for (long i = 0; i < count; i++) fprintf(f, "=binary:%lX\n3:AAAA\n", plain ? i + 1 : 1);
 }
 
-// A heap of one cell of these bytes, in base64.
-static void put_external(FILE *f, const unsigned char *bytes, long count) {
+// An external term of these bytes, in base64.
+static void put_encoded(FILE *f, const unsigned char *bytes, long count) {
     static const char digits[] = "ABCDEFGHIJKLMNOPQRSTUVWXYZabcdefghijklmnopqrstuvwxyz0123456789+/";
-    put_heap(f);
-    fprintf(f, "10:E%lX:", count);
+    fprintf(f, "E%lX:", count);
     for (long i = 0; i < count; i += 3) {
         unsigned long group = (unsigned long)bytes[i] << 16;
         if (i + 1 < count) group |= (unsigned long)bytes[i + 1] << 8;
@@ -279,6 +284,13 @@ static void put_external(FILE *f, const unsigned char *bytes, long count) {
         fputc(i + 2 < count ? digits[group & 63] : '=', f);
     }
     fputc('\n', f);
+}
+
+// A heap of one cell of these bytes.
+static void put_external(FILE *f, const unsigned char *bytes, long count) {
+    put_heap(f);
+    fputs("10:", f);
+    put_encoded(f, bytes, count);
 }
 
 static unsigned char *put_count(unsigned char *to, unsigned char tag, unsigned long count) {
@@ -566,6 +578,51 @@ static void atoms(FILE *f, long count) {
     list(f, 40);
 }
 
+// A line of a heap with a reference, whose text has this number behind its first.
+static void put_reference(FILE *f, long address, unsigned long n) {
+    unsigned char bytes[23] = {131, 90, 0, 3, 119, 1, 'a', 0, 0, 0, 1, 0, 0, 0, 1, 0, 0, 0, 2};
+    for (int i = 0; i < 4; i++) bytes[19 + i] = n >> (24 - 8 * i) & 255;
+    fprintf(f, "%lX:", address);
+    put_encoded(f, bytes, 23);
+}
+
+// A process with so many monitors of another. Behind the first number of each reference stands its own number first, or last.
+static void put_monitors(FILE *f, long count, int first) {
+    fputs("=proc:<0.1.0>\nState: Waiting\nLink list: [", f);
+    for (long i = 0; i < count; i++)
+        fprintf(f, first ? "%s{to,<0.2.0>,#Ref<0.%ld.2.1>}" : "%s{to,<0.2.0>,#Ref<0.1.2.3.4.5.%ld>}", i ? ", " : "", i + 1);
+    fputs("]\n", f);
+}
+
+static void requests(FILE *f, long count) {
+    put_monitors(f, count, plain);
+    fputs("=proc_stack:<0.1.0>\ny0:H10\n=proc_heap:<0.1.0>\n", f);
+    put_reference(f, 16, 1);
+}
+
+static void slots(FILE *f, long count) {
+    put_monitors(f, count, plain);
+    fputs("=proc_stack:<0.1.0>\n", f);
+    for (long i = 0; i < count; i++) fprintf(f, "y%ld:H%lX\n", i, 16 * (i + 1));
+    fputs("=proc_heap:<0.1.0>\n", f);
+    for (long i = 0; i < count; i++) put_reference(f, 16 * (i + 1), i + 1);
+}
+
+static void same_slot(FILE *f, long count) {
+    put_monitors(f, 1, 1);
+    fputs("=proc_stack:<0.1.0>\ny0:H10\n=proc_heap:<0.1.0>\n", f);
+    for (long i = 0; i < count; i++) put_reference(f, plain ? 16 * (i + 1) : 16, i + 2);
+}
+
+static void calls(FILE *f, long count) {
+    for (long i = 0; i < count; i++) {
+        long target = plain || i + 1 == count ? 0 : i + 1;
+        fprintf(f, "=proc:<0.%ld.0>\nState: Waiting\nLink list: [{to,<0.%ld.0>,#Ref<0.%ld.2.1>}]\n", i, target, i + 1);
+        fprintf(f, "=proc_stack:<0.%ld.0>\ny0:H10\n=proc_heap:<0.%ld.0>\n", i, i);
+        put_reference(f, 16, i + 1);
+    }
+}
+
 static const struct {
     const char *name;
     void (*write)(FILE *f, long count);
@@ -576,6 +633,7 @@ static const struct {
     {"letters", letters}, {"marks", marks}, {"states", states}, {"places", places}, {"port_kinds", port_kinds}, {"frames", frames}, {"numbers", numbers},
     {"inner", inner}, {"one_text", one_text}, {"texts", texts}, {"tuple", tuple}, {"flat", flat}, {"hash", hash}, {"keys", keys},
     {"slices", slices}, {"shuffled", shuffled}, {"budgets", budgets}, {"upwards", upwards}, {"chain", chain}, {"one_cell", one_cell}, {"atoms", atoms},
+    {"requests", requests}, {"slots", slots}, {"references", same_slot}, {"calls", calls},
 };
 
 int main(int count, char **words) {

@@ -10,7 +10,7 @@ use Rattle.table_sections.specs.declared.kinds.TableKind.TheVariants as kinds
 use Rattle.command_words.specs.declared.words.Cmd.{Cmd}
 use Rattle.command_words.specs.declared.words.Cmd.TheVariants.{On, Make, Trial}
 use Rattle.command_words.specs.declared.words.Query.{Query}
-use Rattle.command_words.specs.declared.words.Query.TheVariants.{Index, Info, Procs, Proc, Memory, Field, Table, Roots, Term, PeekTerm, PeekRoots, Ext, Reach, Shapes, Weigh, WeighCell, Cells, Binary, Binaries, Holders, Triage, Stacks, Links, Redact, Audit, AuditJson, AuditSettled, Fields, Path}
+use Rattle.command_words.specs.declared.words.Query.TheVariants.{Index, Info, Procs, Proc, Memory, Field, Table, Roots, Term, PeekTerm, PeekRoots, Ext, Reach, Shapes, Weigh, WeighCell, Heavy, Cells, Binary, Binaries, Holders, Triage, Stacks, Links, Redact, Audit, AuditJson, AuditSettled, Fields, Path, Waits}
 use Rattle.command_words.specs.Budgets.{budget_of}
 use Rattle.command_words.specs.Ranges.{number_upto}
 
@@ -47,6 +47,8 @@ pub data Ask : Type 0 where
   weigh : List ℕ → ℕ → Ask
   -- what the cells alone hold to which the elements of the cell at this address refer
   weigh_cell : List ℕ → ℕ → ℕ → Ask
+  -- down to where most of the memory of the process with this pid hangs, with at most this many parts of each level
+  heavy : List ℕ → ℕ → Ask
   -- what is on the heap of the process with this pid
   cells : List ℕ → Ask
   -- the binary with this address
@@ -59,6 +61,8 @@ pub data Ask : Type 0 where
   triage : ℕ → Ask
   -- which processes stand at the same place, with at most this many groups
   stacks : ℕ → Ask
+  -- who waits for whom, with at most this many targets and circles
+  waits : ℕ → Ask
   links : Ask
   -- the dump with its payloads made zero
   redact : Ask
@@ -98,12 +102,14 @@ shown_query (Reach pid) = reach pid.now
 shown_query (Shapes pid count pids) = shapes pid.now count pids
 shown_query (Weigh pid count) = weigh pid.now count
 shown_query (WeighCell pid count addr) = weigh_cell pid.now count addr
+shown_query (Heavy pid count) = heavy pid.now count
 shown_query (Cells pid) = cells pid.now
 shown_query (Binary addr) = binary addr
 shown_query Binaries = binaries
 shown_query (Holders addr) = holders addr
 shown_query (Triage count) = triage count
 shown_query (Stacks count) = stacks count
+shown_query (Waits count) = waits count
 shown_query Links = links
 shown_query Redact = redact
 shown_query (Audit limit full) = audit limit full
@@ -117,7 +123,7 @@ shown_command (Make seed count) = make seed count
 shown_command (Trial seed count) = trial seed count
 
 -- what a command without more words asks; `triage` then shows
--- 10 rows of each table, and `stacks` 10 groups
+-- 10 rows of each table, `stacks` 10 groups, and `waits` 10 targets and circles
 abbrev pub plain_query : List ℕ → Option Ask
 plain_query name =
     if bytes_eq name (codes "index") then Some index
@@ -131,8 +137,9 @@ plain_query name =
     else (if bytes_eq name (codes "binaries") then Some binaries
     else (if bytes_eq name (codes "triage") then Some (triage 10)
     else (if bytes_eq name (codes "stacks") then Some (stacks 10)
+    else (if bytes_eq name (codes "waits") then Some (waits 10)
     else (if bytes_eq name (codes "links") then Some links
-    else (if bytes_eq name (codes "redact") then Some redact else None))))))))))))
+    else (if bytes_eq name (codes "redact") then Some redact else None)))))))))))))
 
 -- the roots of a process, within the budget of the last words
 abbrev pub roots_query : RootKind → List ℕ → List (List ℕ) → Option Ask
@@ -188,6 +195,12 @@ weigh_query pid (count ∷ []) = option_map (weigh pid) (number_upto 1000 count)
 weigh_query pid (count ∷ addr ∷ []) = option_and_then (λ n. option_map (weigh_cell pid n) (hex_number addr)) (number_upto 1000 count)
 weigh_query pid words = None
 
+-- down to where memory hangs: at most 3 parts of each level, or a number of them from 1 to 1,000
+abbrev pub heavy_query : List ℕ → List (List ℕ) → Option Ask
+heavy_query pid [] = Some (heavy pid 3)
+heavy_query pid (count ∷ []) = option_map (heavy pid) (number_upto 1000 count)
+heavy_query pid words = None
+
 -- the field with a key of every section with a tag
 abbrev pub fields_query : List ℕ → List (List ℕ) → Option Ask
 fields_query tag (key ∷ []) = Some (fields tag key)
@@ -213,12 +226,13 @@ process_query name word words =
     else (if bytes_eq name (codes "peek") then peek_query word words
     else (if bytes_eq name (codes "shapes") then shapes_query word words
     else (if bytes_eq name (codes "weigh") then weigh_query word words
+    else (if bytes_eq name (codes "heavy") then heavy_query word words
     else (if bytes_eq name (codes "ext") then cell_query ext word words
     else (if bytes_eq name (codes "path") then cell_query path word words
     else (if bytes_eq name (codes "fields") then fields_query word words
     else (if bytes_eq name (codes "audit") then audit_query audit word words
     else (if bytes_eq name (codes "audit-json") then audit_query audit_json word words
-    else (if bytes_eq name (codes "audit-settled") then audit_query audit_settled word words else None))))))))))))
+    else (if bytes_eq name (codes "audit-settled") then audit_query audit_settled word words else None)))))))))))))
 
 -- what a command asks with another word
 abbrev pub word_query : List ℕ → List ℕ → Option Ask
@@ -231,7 +245,8 @@ word_query name word =
     else (if bytes_eq name (codes "holders") then option_map holders (hex_number word)
     else (if bytes_eq name (codes "triage") then option_map triage (number_upto 1000 word)
     else (if bytes_eq name (codes "stacks") then option_map stacks (number_upto 1000 word)
-    else process_query name word [])))))))
+    else (if bytes_eq name (codes "waits") then option_map waits (number_upto 1000 word)
+    else process_query name word []))))))))
 
 -- a command that makes a dump, from a seed and a count of processes, which is from 1 to 200,000
 abbrev pub made_command : (ℕ → ℕ → Command) → List ℕ → List ℕ → Option Command
@@ -267,8 +282,10 @@ IsAskInRange (peek_roots kind pid first count nodes marked) = (0 < nodes) × (1 
 IsAskInRange (shapes pid count pids) = (1 ≤ count) × (count ≤ 1000)
 IsAskInRange (weigh pid count) = (1 ≤ count) × (count ≤ 1000)
 IsAskInRange (weigh_cell pid count addr) = (1 ≤ count) × (count ≤ 1000)
+IsAskInRange (heavy pid count) = (1 ≤ count) × (count ≤ 1000)
 IsAskInRange (triage count) = (1 ≤ count) × (count ≤ 1000)
 IsAskInRange (stacks count) = (1 ≤ count) × (count ≤ 1000)
+IsAskInRange (waits count) = (1 ≤ count) × (count ≤ 1000)
 IsAskInRange ask = Unit {0}
 
 -- the numbers of a command are in the ranges that it takes

@@ -2,7 +2,7 @@
 ghost use Rattle.std.specs.Prelude.{◌≡◌, ◌<◌, ℕ, Bool, [], ◌∷◌, List, map, option_map};
 ghost use Rattle.std.specs.Option.{IfSome};
 ghost use Rattle.std.specs.String.{string_bytes};
-ghost use Rattle.command_words.specs.Command.{Ask, audit, audit_json, audit_query, audit_settled, binary, command, full_of, holders, on, peek_query, peek_term, plain_query, process_query, roots_query, shapes_query, shown_command, shown_query, some_roots_query, stacks, term, term_query, triage, weigh_query, word_command, word_query, IsAskInRange, IsInRange, counted_shapes, is_pids, fields_query, cell_query, ext, path};
+ghost use Rattle.command_words.specs.Command.{Ask, audit, audit_json, audit_query, audit_settled, binary, command, full_of, holders, on, peek_query, peek_term, plain_query, process_query, roots_query, shapes_query, shown_command, shown_query, some_roots_query, stacks, term, term_query, triage, weigh_query, word_command, word_query, IsAskInRange, IsInRange, counted_shapes, is_pids, fields_query, cell_query, ext, path, waits, heavy_query};
 ghost use Rattle.command_words.specs.Ranges.{number_upto};
 ghost use Rattle.dump_io.specs.Numbers.{hex_number};
 
@@ -16,6 +16,9 @@ use table_sections::TableKind;
 // How many rows of each table `triage` shows, how many groups `stacks`, how many
 // kinds of messages `shapes` and how many parts `weigh`, if the words have no number.
 const USUAL_ROWS: u32 = 10;
+
+// How many parts of each level `heavy` shows, if the words have no number.
+const USUAL_PARTS: u32 = 3;
 
 // The most rows, groups, kinds, parts or roots for which a number in the words may ask.
 const MOST_ROWS: u32 = 1_000;
@@ -130,6 +133,13 @@ pub enum Query<'a> {
         count: u32,
         addr: u64,
     },
+    /// `heavy FILE PID [N]`: from the roots of a process down to where most of its memory hangs, at most N parts of
+    /// each level, whatever the size of the heap.
+    Heavy {
+        pid: &'a str,
+        /// From 1 to 1,000.
+        count: u32,
+    },
     /// `cells FILE PID`: what is on a process's heap: each cell with its address, its kind and its size.
     Cells {
         pid: &'a str,
@@ -152,6 +162,11 @@ pub enum Query<'a> {
     },
     /// `stacks FILE [N]`: which processes stand at the same place, at most N groups of them.
     Stacks {
+        count: u32,
+    },
+    /// `waits FILE [N]`: who waits for whom, at most N targets, and at most N circles.
+    Waits {
+        /// From 1 to 1,000.
         count: u32,
     },
     /// `links FILE`: the links and monitors of all processes.
@@ -229,6 +244,7 @@ fn plain_query<'a>(name: &str) -> Option<Query<'a>>
         "binaries" => Some(Query::Binaries),
         "triage" => Some(Query::Triage { count: USUAL_ROWS }),
         "stacks" => Some(Query::Stacks { count: USUAL_ROWS }),
+        "waits" => Some(Query::Waits { count: USUAL_ROWS }),
         "links" => Some(Query::Links),
         "redact" => Some(Query::Redact),
         _ => None,
@@ -259,6 +275,7 @@ fn word_query<'a>(name: &str, word: &'a str) -> Option<Query<'a>>
         "holders" => holders_query(word),
         "triage" => triage_query(word),
         "stacks" => stacks_query(word),
+        "waits" => waits_query(word),
         _ => process_query(name, word, &[]),
     }
 }
@@ -295,6 +312,14 @@ fn stacks_query<'a>(word: &str) -> Option<Query<'a>>
     Some(Query::Stacks { count })
 }
 
+fn waits_query<'a>(word: &str) -> Option<Query<'a>>
+    ensures reads { option_map shown_query result ≡ option_map waits (number_upto 1000 word.now) }
+    ensures range { IfSome result (λ query. IsAskInRange (shown_query query)) }
+{
+    let count = number_upto(word, MOST_ROWS)?;
+    Some(Query::Waits { count })
+}
+
 fn process_query<'a>(name: &str, word: &'a str, words: &'a [String]) -> Option<Query<'a>>
     ensures reads { option_map shown_query result
         ≡ process_query name.now word.now (map string_bytes words.now) }
@@ -308,6 +333,7 @@ fn process_query<'a>(name: &str, word: &'a str, words: &'a [String]) -> Option<Q
         "peek" => peek_query(word, words),
         "shapes" => shapes_query(word, words),
         "weigh" => weigh_query(word, words),
+        "heavy" => heavy_query(word, words),
         "ext" => ext_query(word, words),
         "fields" => fields_query(word, words),
         "path" => path_query(word, words),
@@ -493,6 +519,24 @@ fn weigh_query<'a>(pid: &'a str, words: &[String]) -> Option<Query<'a>>
             let count = number_upto(count.as_str(), MOST_ROWS)?;
             let addr = hex_u64(addr.as_bytes())?;
             Some(Query::WeighCell { pid, count, addr })
+        }
+        _ => None,
+    }
+}
+
+fn heavy_query<'a>(pid: &'a str, words: &[String]) -> Option<Query<'a>>
+    ensures reads { option_map shown_query result
+        ≡ heavy_query pid.now (map string_bytes words.now) }
+    ensures range { IfSome result (λ query. IsAskInRange (shown_query query)) }
+{
+    match words {
+        [] => Some(Query::Heavy {
+            pid,
+            count: USUAL_PARTS,
+        }),
+        [count] => {
+            let count = number_upto(count.as_str(), MOST_ROWS)?;
+            Some(Query::Heavy { pid, count })
         }
         _ => None,
     }

@@ -13,8 +13,8 @@ use heap_commands::{
 };
 use std::alloc::Global;
 use stream_commands::{
-    run_binaries, run_holders, run_path, run_redact, run_shapes, run_stacks, run_weigh,
-    run_weigh_cell,
+    run_binaries, run_heavy, run_holders, run_path, run_redact, run_shapes, run_stacks, run_waits,
+    run_weigh, run_weigh_cell,
 };
 use table_commands::{
     run_audit, run_audit_json, run_audit_settled, run_field, run_fields, run_index, run_info,
@@ -118,12 +118,14 @@ fn run_query<D: Dumps, K: Sink>(
             dumps,
             out,
         ),
+        Query::Heavy { pid, count } => run_heavy(dump, pid.as_bytes(), count, dumps, out),
         Query::Cells { pid } => run_cells(dump, pid.as_bytes(), dumps, out),
         Query::Binary { addr } => run_binary(dump, addr, dumps, out),
         Query::Binaries => run_binaries(dump, dumps, out),
         Query::Holders { addr } => run_holders(dump, addr, dumps, out),
         Query::Triage { count } => run_triage(dump, count, dumps, out),
         Query::Stacks { count } => run_stacks(dump, count, dumps, out),
+        Query::Waits { count } => run_waits(dump, count, dumps, out),
         Query::Links => run_links(dump, dumps, out),
         Query::Redact => run_redact(dump, dumps, out),
         Query::Audit { limit, full } => run_audit(dump, limit, full, dumps, out),

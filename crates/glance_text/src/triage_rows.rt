@@ -1,12 +1,12 @@
 // The rows of the report of `triage`.
-ghost use Rattle.std.specs.Prelude.{◌≡◌, ◌∷◌, [], ◌<◌, length, codes, All};
+ghost use Rattle.std.specs.Prelude.{◌≡◌, ◌∷◌, [], ◌<◌, length, All};
 ghost use Rattle.std.specs.List.{flat_map};
 ghost use Rattle.std.specs.Option.{option_copied};
 ghost use Rattle.dump_io.specs.Pieces.{piece_text};
 ghost use Rattle.dump_io.specs.Sinks.{Puts};
 ghost use Rattle.process_table.specs.Processes.{IsProcessIn};
 ghost use Rattle.dump_triage.specs.Ranking.{AreWithin};
-ghost use Rattle.dump_triage.specs.Triage.{AreGroupsWithin, FitsTriage};
+ghost use Rattle.dump_triage.specs.Triage.{AreGroupsWithin};
 ghost use Rattle.glance_text.specs.Triage.{group_line, group_lines, owner_name, port_line, process_lines, process_number_line, standing, standing_end, state_count_line, table_bytes_line, table_lines};
 
 use dump_io::{Failed, Piece, Sink};

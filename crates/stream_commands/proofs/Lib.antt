@@ -3,4 +3,6 @@ mod HolderLoads
 mod PathLoads
 mod Redacting
 pub mod RowFacts
+mod WaitFacts
+mod WaitLoads
 mod WeightLoads

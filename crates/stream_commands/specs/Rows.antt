@@ -20,10 +20,15 @@ use Rattle.process_stacks.specs.Groups.{found_from, Found}
 use Rattle.process_stacks.specs.Rows.{stack_rows, stacks_length}
 use Rattle.section_rows.specs.Rows.{Row}
 use Rattle.stream_commands.specs.Stacks.{stacks_report}
+use Rattle.process_table.specs.Stands.{stand_rows}
+use Rattle.stream_commands.specs.Waits.{waits_report, Awaiting}
+use Rattle.wait_requests.specs.Waits.{targets_of, waiters_with, waits_length}
 use Rattle.message_shapes.specs.Messages.{mail_shapes, ShapeMap}
 use Rattle.stream_commands.specs.Shapes.{shapes_report}
 use Rattle.part_weights.specs.Weights.{address_weighing, root_weighing, Weighing}
 use Rattle.stream_commands.specs.Weights.{weights_report}
+use Rattle.heap_levels.specs.Levels.{HeavyLevels, heavy_levels, process_of}
+use Rattle.stream_commands.specs.Heavy.{heavy_report}
 use Rattle.heap_ways.specs.Ways.{heap_way, Way}
 use Rattle.stream_commands.specs.Paths.{path_report}
 use Rattle.term_text.specs.Cuts.{all_roots, cut_report}
@@ -128,6 +133,16 @@ weigh_cell_row pid most addr = with_cuts [] (record (heap_question pid) {
   more = λ limits bytes. 2 * bodies_length (heap_bodies pid (sections bytes));
 })
 
+-- down from the roots of the process with this pid to where most of its memory hangs, with at most this many parts of each level
+abbrev pub heavy_row : List ℕ → ℕ → Meaning
+heavy_row pid most = with_cuts all_roots (record (heap_question pid) {
+  also = root_bodies pid;
+  What = HeavyLevels;
+  what = λ bytes. heavy_levels most (process_of bytes (index_of bytes) pid);
+  show = heavy_report;
+  more = λ limits bytes. 2 * bodies_length (heap_bodies pid (sections bytes));
+})
+
 -- by which way the roots of the process with this pid reach the cell at this address
 abbrev pub path_row : List ℕ → ℕ → Meaning
 path_row pid addr = with_cuts all_roots (record (heap_question pid) {
@@ -164,6 +179,25 @@ abbrev pub stacks_row : ℕ → Meaning
 stacks_row most =
     record (of_bodies record_sections stacked_in (λ s. stacks_report most s.rows s.found)) {
       takes = λ limits bytes. bodies_length (record_sections (sections bytes)) + stacks_length (index_of bytes) (stack_rows bytes);
+    }
+
+-- the processes of the dump with these bytes, where they stand, and for whom they wait
+abbrev pub waits_in : List ℕ → Awaiting
+waits_in bytes =
+    let processes = (process_table bytes).processes in
+    record {
+      index = index_of bytes;
+      processes = processes;
+      stands = stand_rows bytes;
+      waiters = waiters_with processes (targets_of bytes (index_of bytes) processes);
+    }
+
+-- who waits for whom, with at most this many targets and circles
+abbrev pub waits_row : ℕ → Meaning
+waits_row most =
+    record (of_bodies record_sections waits_in (waits_report most)) {
+      takes = λ limits bytes.
+          bodies_length (record_sections (sections bytes)) + waits_length (index_of bytes) (process_table bytes).processes;
     }
 
 -- the dump with its payloads made zero: it is copied from the whole dump

@@ -5,7 +5,7 @@ ghost use Rattle.std.specs.Option.{option_map};
 ghost use Rattle.dump_io.specs.Pieces.{piece_text};
 ghost use Rattle.dump_io.specs.Sinks.{Puts};
 ghost use Rattle.heap_ways.specs.Shown.{line};
-ghost use Rattle.report_lines.specs.Lines.{line_of, text_or_dash, total_line, word_space};
+ghost use Rattle.report_lines.specs.Lines.{text_or_dash, total_line};
 ghost use Rattle.stream_commands.specs.Paths.{path_report, root_line, step_line, way_lines};
 
 use dump_io::{Failed, Piece, Sink};

@@ -47,8 +47,8 @@ fn put_cell<K: Sink>(sink: &mut K, part: &PartRow<'_>) -> Result<(), Failed>
     )
 }
 
-// Writes the line of a part.
-fn put_part<K: Sink>(sink: &mut K, part: &PartRow<'_>) -> Result<(), Failed>
+/// Writes the line of a part.
+pub(crate) fn put_part<K: Sink>(sink: &mut K, part: &PartRow<'_>) -> Result<(), Failed>
     ensures { Puts (K.state sink.old) (K.state sink.new) (part_line (row part.now)) result }
 {
     put_held(sink, part)?;
@@ -73,8 +73,8 @@ fn put_parts<K: Sink>(sink: &mut K, weights: &Weights, most: u32) -> Result<(), 
     Ok(())
 }
 
-// Writes the line of several cells.
-fn put_weight<K: Sink>(sink: &mut K, word: &[u8], weight: Weight) -> Result<(), Failed>
+/// Writes the line of several cells.
+pub(crate) fn put_weight<K: Sink>(sink: &mut K, word: &[u8], weight: Weight) -> Result<(), Failed>
     ensures { Puts (K.state sink.old) (K.state sink.new) (weight_line word.now weight) result }
 {
     put_line(

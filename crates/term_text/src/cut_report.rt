@@ -1,5 +1,5 @@
 // What a truncated dump may lack of what is read of a process.
-ghost use Rattle.std.specs.Prelude.{◌≡◌, ◌<◌, false, not, codes, length, is_some, Some};
+ghost use Rattle.std.specs.Prelude.{◌≡◌, ◌<◌, false, not, length, is_some, Some};
 ghost use Rattle.std.specs.List.{flat_map};
 ghost use Rattle.dump_io.specs.Sinks.{Puts};
 ghost use Rattle.dump_sections.specs.Bodies.{section_at, section_in, IsPlaceIn};

@@ -1,5 +1,5 @@
 use Rattle.std.proofs.Common.{sym, ◌∙◌, ap}
-use Rattle.command_words.specs.Command.{shown_query, cells, ext, field, fields, peek_roots, peek_term, proc, reach, roots, shapes, term, weigh, weigh_cell, path}
+use Rattle.command_words.specs.Command.{shown_query, cells, ext, field, fields, peek_roots, peek_term, proc, reach, roots, shapes, term, weigh, weigh_cell, heavy, path}
 use Rattle.dump_command.proofs.Asked.{runs-asked}
 use Rattle.dump_command.proofs.commands.run_query.Goals as goal
 
@@ -60,6 +60,9 @@ returns-in-Weigh g c = runs-asked (ap shown_query c.in-Weigh.is ∙ ap (λ p. we
 pub returns-in-WeighCell : goal.returns-in-WeighCell
 returns-in-WeighCell g c = runs-asked (ap shown_query c.in-WeighCell.is ∙ ap (λ p. weigh_cell p c.in-WeighCell.count c.in-WeighCell.addr) (sym c.as_bytes-in-WeighCell.ensures.value)) c.run_weigh_cell.ensures
 
+pub returns-in-Heavy : goal.returns-in-Heavy
+returns-in-Heavy g c = runs-asked (ap shown_query c.in-Heavy.is ∙ ap (λ p. heavy p c.in-Heavy.count) (sym c.as_bytes-in-Heavy.ensures.value)) c.run_heavy.ensures
+
 pub returns-in-Cells : goal.returns-in-Cells
 returns-in-Cells g c = runs-asked (ap shown_query c.in-Cells.is ∙ ap (λ p. cells p) (sym c.as_bytes-in-Cells.ensures.value)) c.run_cells.ensures
 
@@ -77,6 +80,9 @@ returns-in-Triage g c = runs-asked (ap shown_query c.in-Triage.is) c.run_triage.
 
 pub returns-in-Stacks : goal.returns-in-Stacks
 returns-in-Stacks g c = runs-asked (ap shown_query c.in-Stacks.is) c.run_stacks.ensures
+
+pub returns-in-Waits : goal.returns-in-Waits
+returns-in-Waits g c = runs-asked (ap shown_query c.in-Waits.is) c.run_waits.ensures
 
 pub returns-in-Links : goal.returns-in-Links
 returns-in-Links g c = runs-asked (ap shown_query c.in-Links.is) c.run_links.ensures
