@@ -1,3 +1,4 @@
+mod HearFacts
 pub mod Joining
 pub mod Keeping
 pub mod Opening

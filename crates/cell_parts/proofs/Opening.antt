@@ -12,7 +12,7 @@ use Rattle.cell_graphs.specs.Graphs.{Graph}
 use Rattle.cell_graphs.specs.Laws.Closing.{count-most}
 use Rattle.cell_graphs.specs.Frontiers.{is_on}
 use Rattle.cell_parts.specs.Elements.{Spot, weighed_leads, leads_on, opened_at, spots_of, weighed, weighed_at}
-use Rattle.cell_parts.specs.Kinds.{cell_kind}
+use Rattle.heap_skeleton.specs.Kinds.{cell_kind}
 use Rattle.cell_parts.specs.Inner.Walking.{AreMarked, unpassed}
 
 -- ---- how many cells weren't passed

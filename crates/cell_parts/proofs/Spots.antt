@@ -10,7 +10,7 @@ use Rattle.dump_io.specs.Laws.Lists.{drop-at, enumerate-at}
 use Rattle.cell_records.specs.declared.cells.Kind.{Kind}
 use Rattle.cell_graphs.specs.Graphs.{Graph, places_at}
 use Rattle.cell_parts.specs.Elements.{Spot, spots_of}
-use Rattle.cell_parts.specs.Kinds.{cell_kind}
+use Rattle.heap_skeleton.specs.Kinds.{cell_kind}
 use Rattle.cell_parts.specs.Inner.Walking.{places_left, spot_at, spots_from, waiting}
 use Rattle.cell_parts.specs.declared.elements.Frame.{Frame}
 

@@ -7,7 +7,7 @@ use Rattle.cell_records.specs.declared.cells.Kind.{Kind}
 use Rattle.cell_records.specs.declared.cells.Kind.TheVariants as kind
 use Rattle.cell_graphs.specs.Graphs.{Graph, places_at}
 use Rattle.cell_graphs.specs.Frontiers.{is_on}
-use Rattle.cell_parts.specs.Kinds.{cell_kind}
+use Rattle.heap_skeleton.specs.Kinds.{cell_kind}
 use Rattle.cell_parts.specs.Parts.{PartElement}
 
 -- where an element stands: the kind of its cell, its place there, and the cell to which it leads

@@ -1,3 +1,4 @@
+pub mod Hearing
 pub mod Joining
 pub mod Keeping
 pub mod Walking

@@ -1,5 +1,6 @@
 pub mod Elements
 pub mod Inner
-pub mod Kinds
 pub mod Laws
+pub mod Over
 pub mod Parts
+pub mod Roots

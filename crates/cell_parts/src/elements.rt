@@ -5,9 +5,9 @@ ghost use Rattle.cell_parts.specs.Elements.{cell_elements, leads_on, opened_at, 
 ghost use Rattle.cell_parts.specs.Parts.{ArePartsOf, CellParts, PartElement};
 ghost use Rattle.cell_parts.specs.Inner.Walking.{AreFrames, AreMarked, HasAdded, IsWalking, places_left, spot_at, spots_from, waiting};
 
-use crate::kinded::Kinded;
 use crate::parts::Parts;
-use cell_records::Kind;
+use cell_graphs::CellGraph;
+use heap_skeleton::{Kind, Skeleton};
 use std::alloc::{AllocError, Global};
 
 // Where the walk goes on in a cell.
@@ -49,17 +49,17 @@ fn is_weighed(kind: Option<Kind>, lead: Option<u32>) -> bool
 }
 
 // The cell that opens at a place that leads here.
-fn opened<G: Kinded>(graph: &G, passed: &[bool], at: Frame, lead: Option<u32>) -> Option<u32>
-    requires cell { at.cell < length (G.graph graph.now) }
-    requires within { IfSome lead (λ n. n < length (G.graph graph.now)) }
-    requires marks { length passed.now ≡ length (G.graph graph.now) }
+fn opened(skeleton: &Skeleton, passed: &[bool], at: Frame, lead: Option<u32>) -> Option<u32>
+    requires cell { at.cell < length skeleton.now.leads }
+    requires within { IfSome lead (λ n. n < length skeleton.now.leads) }
+    requires marks { length passed.now ≡ length skeleton.now.leads }
     ensures value { (list : List ℕ) → AreMarked passed.now list
-        → result ≡ opened_at (G.kinds graph.now) list (spot_at (G.kinds graph.now) at lead) }
+        → result ≡ opened_at skeleton.now.kinds list (spot_at skeleton.now.kinds at lead) }
     ensures other { IfSome result (λ n. slice_index_or passed.now n false ≡ false) }
     ensures within { IfSome result (λ n. n < length passed.now) }
 {
     let next = lead?;
-    if leads_on(graph.kind(at.cell), at.place, graph.kind(next)) && !passed[next as usize] {
+    if leads_on(skeleton.kind(at.cell), at.place, skeleton.kind(next)) && !passed[next as usize] {
         Some(next)
     } else {
         None
@@ -88,15 +88,15 @@ fn add_lead(
 }
 
 // Goes on behind a place, if its cell has further ones.
-fn go_on<G: Kinded>(graph: &G, frames: &mut Vec<Frame>, at: Frame) -> Result<(), AllocError>
-    requires place { at.place < length (places_at (G.graph graph.now) at.cell) }
-    requires frames { AreFrames (G.graph graph.now) frames.old.items }
-    ensures frames { OnOk result (AreFrames (G.graph graph.now) frames.new.items) }
-    ensures waiting { OnOk result (waiting (G.kinds graph.now) (G.graph graph.now) frames.new.items
-        ≡ drop (at.place + 1) (spots_of (G.kinds graph.now) (G.graph graph.now) at.cell)
-        ++ waiting (G.kinds graph.now) (G.graph graph.now) frames.old.items) }
+fn go_on(skeleton: &Skeleton, frames: &mut Vec<Frame>, at: Frame) -> Result<(), AllocError>
+    requires place { at.place < length (places_at skeleton.now.leads at.cell) }
+    requires frames { AreFrames skeleton.now.leads frames.old.items }
+    ensures frames { OnOk result (AreFrames skeleton.now.leads frames.new.items) }
+    ensures waiting { OnOk result (waiting skeleton.now.kinds skeleton.now.leads frames.new.items
+        ≡ drop (at.place + 1) (spots_of skeleton.now.kinds skeleton.now.leads at.cell)
+        ++ waiting skeleton.now.kinds skeleton.now.leads frames.old.items) }
 {
-    if at.place < graph.places(at.cell) - 1 {
+    if at.place < skeleton.places(at.cell) - 1 {
         frames.push(Frame {
             cell: at.cell,
             place: at.place + 1,
@@ -106,86 +106,86 @@ fn go_on<G: Kinded>(graph: &G, frames: &mut Vec<Frame>, at: Frame) -> Result<(),
 }
 
 // Passes a cell, and goes on at its first place, if it has one.
-fn open<G: Kinded>(graph: &G, walk: &mut Walk, cell: u32) -> Result<(), AllocError>
-    requires cell { cell < length (G.graph graph.now) }
-    requires marks { length walk.old.passed.items ≡ length (G.graph graph.now) }
-    requires frames { AreFrames (G.graph graph.now) walk.old.frames.items }
+fn open(skeleton: &Skeleton, walk: &mut Walk, cell: u32) -> Result<(), AllocError>
+    requires cell { cell < length skeleton.now.leads }
+    requires marks { length walk.old.passed.items ≡ length skeleton.now.leads }
+    requires frames { AreFrames skeleton.now.leads walk.old.frames.items }
     ensures marks { walk.new.passed.items ≡ slice_set walk.old.passed.items cell true }
-    ensures frames { OnOk result (AreFrames (G.graph graph.now) walk.new.frames.items) }
-    ensures waiting { OnOk result (waiting (G.kinds graph.now) (G.graph graph.now) walk.new.frames.items
-        ≡ spots_of (G.kinds graph.now) (G.graph graph.now) cell
-        ++ waiting (G.kinds graph.now) (G.graph graph.now) walk.old.frames.items) }
+    ensures frames { OnOk result (AreFrames skeleton.now.leads walk.new.frames.items) }
+    ensures waiting { OnOk result (waiting skeleton.now.kinds skeleton.now.leads walk.new.frames.items
+        ≡ spots_of skeleton.now.kinds skeleton.now.leads cell
+        ++ waiting skeleton.now.kinds skeleton.now.leads walk.old.frames.items) }
 {
     walk.passed[cell as usize] = true;
-    if graph.places(cell) > 0 {
+    if skeleton.places(cell) > 0 {
         walk.frames.push(Frame { cell, place: 0 })?;
     }
     Ok(())
 }
 
 // What stands at a place is opened or weighed.
-fn pass<G: Kinded>(
+fn pass(
     parts: &mut Parts,
     begun: u64,
-    graph: &G,
+    skeleton: &Skeleton,
     walk: &mut Walk,
     at: Frame,
 ) -> Result<(), AllocError>
-    requires within { LeadsWithin (G.graph graph.now) }
-    requires cells { parts.old.cells ≡ length (G.graph graph.now) }
+    requires within { LeadsWithin skeleton.now.leads }
+    requires cells { parts.old.cells ≡ length skeleton.now.leads }
     requires begun { begun ≤ parts.old.elements }
-    requires marks { length walk.old.passed.items ≡ length (G.graph graph.now) }
-    requires frames { AreFrames (G.graph graph.now) walk.old.frames.items }
-    requires place { at.place < length (places_at (G.graph graph.now) at.cell) }
+    requires marks { length walk.old.passed.items ≡ length skeleton.now.leads }
+    requires frames { AreFrames skeleton.now.leads walk.old.frames.items }
+    requires place { at.place < length (places_at skeleton.now.leads at.cell) }
     ensures cells { parts.new.cells ≡ parts.old.cells }
     ensures total { OnOk result (parts.old.elements ≤ parts.new.elements) }
     ensures marks { length walk.new.passed.items ≡ length walk.old.passed.items }
-    ensures frames { OnOk result (AreFrames (G.graph graph.now) walk.new.frames.items) }
-    ensures work { OnOk result (places_left walk.new.passed.items (G.graph graph.now)
-        + length (waiting (G.kinds graph.now) (G.graph graph.now) walk.new.frames.items)
-        < places_left walk.old.passed.items (G.graph graph.now)
-        + length (spots_from (G.kinds graph.now) (G.graph graph.now) at
-        ++ waiting (G.kinds graph.now) (G.graph graph.now) walk.old.frames.items)) }
+    ensures frames { OnOk result (AreFrames skeleton.now.leads walk.new.frames.items) }
+    ensures work { OnOk result (places_left walk.new.passed.items skeleton.now.leads
+        + length (waiting skeleton.now.kinds skeleton.now.leads walk.new.frames.items)
+        < places_left walk.old.passed.items skeleton.now.leads
+        + length (spots_from skeleton.now.kinds skeleton.now.leads at
+        ++ waiting skeleton.now.kinds skeleton.now.leads walk.old.frames.items)) }
     ensures walking { (cell : ℕ) (before : CellParts) → before.elements ≡ begun
-        → IsWalking (G.kinds graph.now) (G.graph graph.now) cell before parts.old walk.old.passed.items
-        (spots_from (G.kinds graph.now) (G.graph graph.now) at
-        ++ waiting (G.kinds graph.now) (G.graph graph.now) walk.old.frames.items)
-        → OnOk result (IsWalking (G.kinds graph.now) (G.graph graph.now) cell before parts.new walk.new.passed.items
-        (waiting (G.kinds graph.now) (G.graph graph.now) walk.new.frames.items)) }
+        → IsWalking skeleton.now.kinds skeleton.now.leads cell before parts.old walk.old.passed.items
+        (spots_from skeleton.now.kinds skeleton.now.leads at
+        ++ waiting skeleton.now.kinds skeleton.now.leads walk.old.frames.items)
+        → OnOk result (IsWalking skeleton.now.kinds skeleton.now.leads cell before parts.new walk.new.passed.items
+        (waiting skeleton.now.kinds skeleton.now.leads walk.new.frames.items)) }
 {
-    let lead = graph.lead(at.cell, at.place);
-    go_on(graph, &mut walk.frames, at)?;
-    match opened(graph, &walk.passed, at, lead) {
-        Some(next) => open(graph, walk, next),
-        None => add_lead(parts, begun, graph.kind(at.cell), lead),
+    let lead = skeleton.lead(at.cell, at.place);
+    go_on(skeleton, &mut walk.frames, at)?;
+    match opened(skeleton, &walk.passed, at, lead) {
+        Some(next) => open(skeleton, walk, next),
+        None => add_lead(parts, begun, skeleton.kind(at.cell), lead),
     }
 }
 
 /// Adds the elements of a cell that are weighed, one after another. Each has its
 /// number among them, from 0, as its place, and `-` as its label.
 ///
-/// Takes a byte for each cell of the graph, and a stack of at most as many entries as cells.
-pub fn add_elements<G: Kinded>(
+/// Takes a byte for each cell of the heap, and a stack of at most as many entries as cells.
+pub fn add_elements(
     alloc: Global,
     parts: &mut Parts,
-    graph: &G,
+    skeleton: &Skeleton,
     cell: u32,
 ) -> Result<(), AllocError>
-    requires cell { cell < length (G.graph graph.now) }
-    requires cells { parts.old.cells ≡ length (G.graph graph.now) }
+    requires cell { cell < length skeleton.now.leads }
+    requires cells { parts.old.cells ≡ length skeleton.now.leads }
     ensures cells { parts.new.cells ≡ parts.old.cells }
     ensures parts { (elements : List PartElement) → ArePartsOf elements parts.old → OnOk result
-        (ArePartsOf (elements ++ cell_elements (G.kinds graph.now) (G.graph graph.now) cell) parts.new) }
+        (ArePartsOf (elements ++ cell_elements skeleton.now.kinds skeleton.now.leads cell) parts.new) }
 {
     let begun = parts.total();
-    let passed = vec![in alloc; false; graph.cells() as usize]?;
+    let passed = vec![in alloc; false; skeleton.cells() as usize]?;
     let mut walk = Walk {
         passed,
         frames: Vec::new(alloc),
     };
-    open(graph, &mut walk, cell)?;
+    open(skeleton, &mut walk, cell)?;
     while let Some(at) = walk.frames.pop() {
-        pass(parts, begun, graph, &mut walk, at)?;
+        pass(parts, begun, skeleton, &mut walk, at)?;
     }
     Ok(())
 }

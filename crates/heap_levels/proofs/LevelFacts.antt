@@ -18,7 +18,7 @@ use Rattle.part_weights.specs.Held.{row_at, rows_at, sorted_parts}
 use Rattle.part_weights.specs.Laws.Rows.{rows-sorted}
 use Rattle.part_weights.specs.Weights.{Row, rows_of}
 use Rattle.part_weights.specs.declared.held_parts.HeldPart.{HeldPart}
-use Rattle.root_parts.specs.Over.{IsOver}
+use Rattle.cell_parts.specs.Over.{IsOver}
 use Rattle.root_views.specs.declared.kinds.RootKind.{RootKind}
 use Rattle.root_views.specs.declared.kinds.RootKind.TheVariants.{Stack, Dict, Mail}
 use Rattle.heap_levels.specs.Levels.{KindWeighing, Level, first_rows, heaviest, kind_weighing}

@@ -19,7 +19,7 @@ use Rattle.heap_weights.specs.Shares.{weight_below, weight_of, weights_from}
 use Rattle.heap_weights.specs.declared.holders.Holder.TheVariants.{Several}
 use Rattle.heap_weights.specs.declared.shares.Weight.{Weight}
 use Rattle.part_weights.specs.Weights.{Row, Weighing, keyed, weighing}
-use Rattle.root_parts.specs.Roots.{roots_at, roots_elements}
+use Rattle.cell_parts.specs.Roots.{roots_at, roots_elements}
 use Rattle.root_views.specs.Sections.{root_section}
 use Rattle.root_views.specs.declared.kinds.RootKind.{RootKind}
 use Rattle.root_views.specs.declared.kinds.RootKind.TheVariants.{Stack, Dict, Mail}

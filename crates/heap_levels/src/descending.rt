@@ -2,7 +2,7 @@
 ghost use Rattle.std.specs.Prelude.{◌≡◌, ◌*◌, ◌<◌, ◌≤◌, ◌++◌, List, [], ◌∷◌, length, nat_lt, IfOk, OnOk};
 ghost use Rattle.cell_parts.specs.Elements.{cell_elements};
 ghost use Rattle.cell_parts.specs.Parts.{ArePartsOf, PartElement};
-ghost use Rattle.root_parts.specs.Over.{IsOver};
+ghost use Rattle.cell_parts.specs.Over.{IsOver};
 ghost use Rattle.heap_levels.specs.Levels.{heaviest};
 ghost use Rattle.heap_levels.specs.Inner.Plain.{descent, elements_below, no_parts};
 ghost use Rattle.heap_levels.specs.Inner.Descent.{shown_parts, IsDescent, IsDescentWithin};

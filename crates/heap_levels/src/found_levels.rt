@@ -7,7 +7,7 @@ ghost use Rattle.dump_io.specs.Faults.{IsReadCauseOf};
 ghost use Rattle.dump_sections.specs.Index.{sections_in, IsBuiltOver};
 ghost use Rattle.dump_sections.specs.Loading.{bodies_length};
 ghost use Rattle.heap_skeleton.specs.Skeletons.{SkeletonMap};
-ghost use Rattle.root_parts.specs.Over.{IsOver};
+ghost use Rattle.cell_parts.specs.Over.{IsOver};
 ghost use Rattle.root_views.specs.Sections.{root_bodies};
 ghost use Rattle.root_views.specs.declared.kinds.RootKind.{RootKind};
 ghost use Rattle.heap_levels.specs.Levels.{heaviest_kind};
@@ -19,12 +19,11 @@ ghost use Rattle.heap_levels.specs.Inner.Reading.{level_keys, roots_in, shown_fo
 use crate::descending::{Descent, descend, is_most, no_levels};
 use crate::kinds::{KindLevel, KindRow, level_zero};
 use crate::levels::KeyedLevel;
-use cell_parts::Parts;
+use cell_parts::{Parts, read_kind_parts};
 use dump_io::{Dumps, ReadFault};
 use dump_sections::Index;
 use heap_skeleton::Skeleton;
 use part_keys::KeyPlace;
-use root_parts::read_kind_parts;
 use root_views::RootKind;
 use std::alloc::{AllocError, Global};
 

@@ -2,7 +2,7 @@
 ghost use Rattle.std.specs.Prelude.{◌≡◌, ◌<◌, ◌≤◌, length, map, IfOk, All};
 ghost use Rattle.heap_weights.specs.Shares.{AreShares};
 ghost use Rattle.heap_graph.specs.Binaries.{binaries_among};
-ghost use Rattle.root_parts.specs.Over.{IsOver};
+ghost use Rattle.cell_parts.specs.Over.{IsOver};
 ghost use Rattle.heap_levels.specs.Levels.{kind_cells, with_kinds};
 ghost use Rattle.heap_levels.specs.Inner.KindGraphs.{kind_binaries, kind_graph, kind_words, parts_of};
 
@@ -24,7 +24,7 @@ pub(crate) struct KindGraph<'a> {
 
 impl<'a> Model for KindGraph<'a> {
     ghost use Rattle.std.specs.Prelude.{◌+◌, ◌<◌, ◌^◌, length};
-    ghost use Rattle.root_parts.specs.Over.{IsOver};
+    ghost use Rattle.cell_parts.specs.Over.{IsOver};
     ghost use Rattle.heap_levels.specs.Inner.KindGraphs.{KindMap};
 
     ghost Value = { KindMap };

@@ -1,6 +1,6 @@
 // Level 0: what the kinds of roots alone hold.
 ghost use Rattle.std.specs.Prelude.{◌≡◌, ◌<◌, ◌++◌, length, slice_get, Some, IfOk, OnOk};
-ghost use Rattle.root_parts.specs.Over.{IsOver};
+ghost use Rattle.cell_parts.specs.Over.{IsOver};
 ghost use Rattle.heap_levels.specs.Levels.{kind_weighing};
 ghost use Rattle.heap_levels.specs.Inner.Kinds.{row_if, rows_of, sorted_rows};
 ghost use Rattle.heap_levels.specs.Shown.{shown_level};

@@ -4,7 +4,7 @@ ghost use Rattle.cell_parts.specs.Parts.{PartElement, ArePartsOf};
 ghost use Rattle.heap_levels.specs.Inner.Descent.{shown_parts, ArePartsWithin};
 ghost use Rattle.heap_levels.specs.Inner.Plain.{alone_of, no_parts, parts_with, subject_cell};
 ghost use Rattle.part_keys.specs.PartShapes.{shaped_part, AreShapedWithin};
-ghost use Rattle.root_parts.specs.Over.{IsOver};
+ghost use Rattle.cell_parts.specs.Over.{IsOver};
 
 use crate::levels::Subject;
 use cell_parts::Parts;

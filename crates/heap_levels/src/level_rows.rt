@@ -3,7 +3,7 @@ ghost use Rattle.std.specs.Prelude.{◌≡◌, ◌<◌, ◌+◌, ◌++◌, [], �
 ghost use Rattle.heap_levels.specs.Inner.Plain.{rows_labelled};
 ghost use Rattle.part_weights.specs.Held.{row_at, rows_at};
 ghost use Rattle.part_weights.specs.Shown.{row};
-ghost use Rattle.root_parts.specs.Over.{IsOver};
+ghost use Rattle.cell_parts.specs.Over.{IsOver};
 
 use cell_parts::Parts;
 use heap_skeleton::{Kind, Skeleton};

@@ -3,7 +3,7 @@ ghost use Rattle.std.specs.Prelude.{◌≡◌, ◌<◌, List, length, map, slice
 ghost use Rattle.cell_parts.specs.Parts.{ArePartsOf, PartElement};
 ghost use Rattle.heap_graph.specs.Binaries.{binaries_among};
 ghost use Rattle.heap_weights.specs.Shares.{AreShares};
-ghost use Rattle.root_parts.specs.Over.{IsOver};
+ghost use Rattle.cell_parts.specs.Over.{IsOver};
 ghost use Rattle.part_keys.specs.KeyPlaces.{AreKeysWithin};
 ghost use Rattle.heap_levels.specs.Inner.Plain.{keys_of};
 ghost use Rattle.heap_levels.specs.Inner.Descent.{ArePartsWithin, IsWeighed};

@@ -19,7 +19,6 @@ ghost use Rattle.heap_skeleton.specs.Inner.Shown.{skeleton_with, AreLaid, IsSpan
 use crate::loading::read_lines;
 use crate::resolving::resolve;
 use cell_graphs::{CellGraph, Weighed};
-use cell_parts::Kinded;
 use cell_records::{Kind, Ranks, number_of};
 use dump_io::{Dumps, ReadFault};
 use dump_sections::Index;
@@ -209,7 +208,7 @@ impl Skeleton {
 
     /// The kind of a cell's form. A malformed cell has none.
     pub fn kind(&self, cell: u32) -> Option<Kind>
-        requires { cell < length self.now.addresses }
+        requires { cell < length self.now.leads }
         ensures { slice_get self.now.kinds cell ≡ Some result }
     {
         self.kinds[cell as usize]
@@ -220,7 +219,6 @@ impl Skeleton {
         requires { cell < length self.now.leads }
         ensures { result ≡ is_tuple self.now cell }
     {
-        self.leads_are_cells();
         matches!(self.kind(cell), Some(Kind::Tuple))
     }
 }
@@ -243,14 +241,6 @@ impl CellGraph for Skeleton {
     }
 }
 
-impl Kinded for Skeleton {
-    ghost kinds = { λ s. s.kinds };
-
-    fn kind(&self, cell: u32) -> Option<Kind> {
-        self.kinds[cell as usize]
-    }
-}
-
 impl Weighed for Skeleton {
     ghost words = { λ s. s.words };
 
@@ -263,7 +253,7 @@ impl Weighed for Skeleton {
     }
 
     fn is_binary(&self, cell: u32) -> bool {
-        is_binary_kind(Kinded::kind(self, cell))
+        is_binary_kind(self.kind(cell))
     }
 
     fn own(&self) -> u32 {

@@ -1,7 +1,7 @@
 // The elements of cells, and the parts that these make.
 
 use crate::heap_skeleton_calls::skeleton_in;
-use cell_parts::{Kinded, Parts, add_elements};
+use cell_parts::{Parts, add_elements};
 use heap_skeleton::Skeleton;
 use std::alloc::{AllocError, Global};
 use std::process::Abort;
@@ -30,11 +30,11 @@ fn draw(alloc: Global, skeleton: &Skeleton, parts: &Parts) -> Result<Vec<u8>, Al
 }
 
 // The parts that the elements of a cell make.
-fn parts_of<G: Kinded>(alloc: Global, graph: &G, cell: u32) -> Result<Parts, AllocError> {
-    let cells = graph.cells();
+fn parts_of(alloc: Global, skeleton: &Skeleton, cell: u32) -> Result<Parts, AllocError> {
+    let cells = skeleton.cells();
     let mut parts = Parts::new(alloc, cells as usize)?;
     if cell < cells {
-        add_elements(alloc, &mut parts, graph, cell)?;
+        add_elements(alloc, &mut parts, skeleton, cell)?;
     }
     Ok(parts)
 }

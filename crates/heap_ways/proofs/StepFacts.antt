@@ -8,7 +8,7 @@ use Rattle.std.proofs.lemmas.Option.{get_or_from_slice_get}
 use Rattle.dump_io.specs.Laws.Lists.{drop-at, position-none}
 use Rattle.cell_graphs.specs.Graphs.{Graph, places_at}
 use Rattle.cell_graphs.specs.Rounds.{is_to}
-use Rattle.cell_parts.specs.Kinds.{cell_kind}
+use Rattle.heap_skeleton.specs.Kinds.{cell_kind}
 use Rattle.cell_records.specs.declared.cells.Kind.{Kind}
 use Rattle.heap_ways.specs.Steps.{follows, place_to, steps_from, with_cell, with_tail}
 use Rattle.heap_ways.specs.declared.steps.Step.{Step}

@@ -8,7 +8,7 @@ use Rattle.std.proofs.lemmas.Option.{none-some, same_Some}
 use Rattle.cell_graphs.specs.Graphs.{Graph, places_at}
 use Rattle.cell_graphs.specs.Rounds.{is_to}
 use Rattle.cell_graphs.specs.Laws.Leading.{is_to-true}
-use Rattle.cell_parts.specs.Kinds.{cell_kind}
+use Rattle.heap_skeleton.specs.Kinds.{cell_kind}
 use Rattle.cell_records.specs.declared.cells.Kind.{Kind}
 use Rattle.heap_ways.specs.Laws.{tail_of, tails_from, written_out}
 use Rattle.heap_ways.specs.Steps.{follows, has_pairs, is_list, place_to, steps_from, with_cell, with_tail}

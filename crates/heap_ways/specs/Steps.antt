@@ -3,7 +3,7 @@ use Rattle.std.specs.Prelude.{ℕ, suc, ◌==◌, Bool, true, false, not, ◌&&�
 use Rattle.std.specs.Option.{option_map_or}
 use Rattle.cell_graphs.specs.Graphs.{Graph, places_at}
 use Rattle.cell_graphs.specs.Rounds.{is_to}
-use Rattle.cell_parts.specs.Kinds.{cell_kind}
+use Rattle.heap_skeleton.specs.Kinds.{cell_kind}
 use Rattle.cell_records.specs.declared.cells.Kind.{Kind}
 use Rattle.cell_records.specs.declared.cells.Kind.TheVariants as kind
 use Rattle.heap_ways.specs.declared.steps.Step.{Step}

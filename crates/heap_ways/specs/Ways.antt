@@ -3,14 +3,14 @@ use Rattle.std.specs.Prelude.{ℕ, ◌==◌, Bool, List, [], ◌∷◌, map, sli
 use Rattle.std.specs.List.{position}
 use Rattle.std.specs.Option.{option_map, option_map_or}
 use Rattle.cell_graphs.specs.Frontiers.{is_on}
-use Rattle.cell_parts.specs.Kinds.{cell_kind}
+use Rattle.heap_skeleton.specs.Kinds.{cell_kind}
 use Rattle.cell_parts.specs.Parts.{CellPart, parts_made}
 use Rattle.cell_records.specs.declared.cells.Kind.{Kind}
 use Rattle.cell_ways.specs.Depths.{depth_of, way_to}
 use Rattle.dump_sections.specs.Index.{Contents, sections_in}
 use Rattle.heap_cells.specs.Cells.{Cell}
 use Rattle.heap_skeleton.specs.Skeletons.{SkeletonMap, is_tuple, skeleton_for}
-use Rattle.root_parts.specs.Roots.{all_roots, roots_elements}
+use Rattle.cell_parts.specs.Roots.{all_roots, roots_elements}
 use Rattle.tuple_fronts.specs.Fronts.{cells_for}
 use Rattle.tuple_fronts.specs.Shapes.{inner_shape}
 use Rattle.heap_ways.specs.Steps.{steps_of}

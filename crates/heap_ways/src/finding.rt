@@ -3,7 +3,7 @@ ghost use Rattle.std.specs.Prelude.{◌≡◌, ◌<◌, All, length, IfOk};
 ghost use Rattle.cell_ways.specs.Depths.{depth_of, way_to};
 ghost use Rattle.cell_ways.specs.Ways.{AreWays};
 ghost use Rattle.heap_ways.specs.Ways.{is_part};
-ghost use Rattle.root_parts.specs.Over.{IsOver};
+ghost use Rattle.cell_parts.specs.Over.{IsOver};
 
 use cell_parts::Parts;
 use cell_ways::Ways;

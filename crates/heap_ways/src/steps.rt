@@ -5,7 +5,6 @@ ghost use Rattle.heap_ways.specs.Steps.{follows, has_pairs, is_list, place_to, s
 ghost use Rattle.heap_ways.specs.Inner.Steps.{kind_before, steps_at};
 
 use cell_graphs::CellGraph;
-use cell_parts::Kinded;
 use cell_records::Kind;
 use heap_skeleton::Skeleton;
 use std::alloc::{AllocError, Global};
@@ -113,7 +112,7 @@ fn kind_before(skeleton: &Skeleton, way: &[u32], i: usize) -> Option<Kind>
     if i == 0 {
         None
     } else {
-        Kinded::kind(skeleton, way[i - 1])
+        skeleton.kind(way[i - 1])
     }
 }
 
@@ -136,8 +135,8 @@ fn push_next(
     };
     let place = place_to(skeleton, cell, *next);
     let before = kind_before(skeleton, way, i);
-    let here = Kinded::kind(skeleton, cell);
-    let is_tail = follows(before, here, place, Kinded::kind(skeleton, *next));
+    let here = skeleton.kind(cell);
+    let is_tail = follows(before, here, place, skeleton.kind(*next));
     push_cell(steps, is_tail, cell, place)
 }
 

@@ -7,7 +7,7 @@ ghost use Rattle.dump_sections.specs.Index.{sections_in, IsBuiltOver};
 ghost use Rattle.dump_sections.specs.Loading.{bodies_length};
 ghost use Rattle.heap_cells.specs.Loading.{heap_bodies};
 ghost use Rattle.heap_skeleton.specs.Skeletons.{skeleton_for};
-ghost use Rattle.root_parts.specs.Over.{IsOver};
+ghost use Rattle.cell_parts.specs.Over.{IsOver};
 ghost use Rattle.root_views.specs.Sections.{root_bodies};
 ghost use Rattle.tuple_fronts.specs.Fronts.{cells_for};
 ghost use Rattle.heap_ways.specs.Shown.{line};
@@ -20,11 +20,10 @@ use crate::lines::WayLine;
 use crate::placing::{Placed, place_steps};
 use crate::roots::{Root, root_of};
 use crate::steps::Step;
-use cell_parts::{Kinded, Parts};
+use cell_parts::{Parts, read_parts};
 use dump_io::{Dumps, ReadFault};
 use dump_sections::Index;
 use heap_skeleton::Skeleton;
-use root_parts::read_parts;
 use std::alloc::Global;
 use std::marker::Model;
 use tuple_fronts::Texts;
@@ -133,7 +132,7 @@ fn line_of<'a>(skeleton: &Skeleton, fronts: &'a Texts, placed: Placed) -> WayLin
         Step::Tails(cell, count) => WayLine::Tails(skeleton.addr(cell), count),
         Step::Cell(cell, place) => WayLine::Cell(
             skeleton.addr(cell),
-            Kinded::kind(skeleton, cell),
+            skeleton.kind(cell),
             place,
             front_at(fronts, placed.front),
         ),

@@ -1,7 +1,7 @@
 -- Where the keys of maps stand, by what leads where in the heap.
 use Rattle.std.specs.Prelude.{ℕ, ◌-◌, ◌==◌, ◌<◌, ◌&&◌, Bool, true, false, nat_lt, if◌then◌else◌, List, [], ◌∷◌, length, All, Option, None, Some}
 use Rattle.cell_graphs.specs.Graphs.{places_at}
-use Rattle.cell_parts.specs.Kinds.{cell_kind}
+use Rattle.heap_skeleton.specs.Kinds.{cell_kind}
 use Rattle.cell_records.specs.declared.cells.Kind.{Kind}
 use Rattle.cell_records.specs.declared.cells.Kind.TheVariants as kind
 use Rattle.heap_skeleton.specs.Skeletons.{SkeletonMap, is_tuple}

@@ -1,7 +1,7 @@
 -- The shapes of parts. A part is a cell to which an element of another cell leads, or a term among the roots of a process.
 use Rattle.std.specs.Prelude.{ℕ, ◌<◌, List, codes, map, All, Option, Some, slice_get, if◌then◌else◌}
 use Rattle.std.specs.Option.{option_and_then, option_map_or}
-use Rattle.cell_parts.specs.Kinds.{cell_kind}
+use Rattle.heap_skeleton.specs.Kinds.{cell_kind}
 use Rattle.cell_records.specs.declared.cells.Kind.{Kind}
 use Rattle.cell_records.specs.declared.cells.Kind.TheVariants as kind
 use Rattle.dump_sections.specs.Index.{Contents}

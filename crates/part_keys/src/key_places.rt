@@ -4,7 +4,6 @@ ghost use Rattle.cell_graphs.specs.Graphs.{places_at};
 ghost use Rattle.part_keys.specs.KeyPlaces.{first_lead, key_of, key_place, pair_key, value_key, IsKeyWithin};
 
 use cell_graphs::CellGraph;
-use cell_parts::Kinded;
 use heap_skeleton::{Kind, Skeleton};
 
 /// A part of a cell, as it stands among the weighed elements of that cell.
@@ -77,7 +76,7 @@ fn pair_key(skeleton: &Skeleton, part: u32) -> KeyPlace
     ensures value { result ≡ pair_key skeleton.now part }
     ensures within { IsKeyWithin (length skeleton.now.leads) result }
 {
-    if matches!(Kinded::kind(skeleton, part), Some(Kind::List)) {
+    if matches!(skeleton.kind(part), Some(Kind::List)) {
         KeyPlace::At(part, 0)
     } else {
         KeyPlace::NoKey
@@ -93,7 +92,7 @@ pub fn key_place(skeleton: &Skeleton, part: PartPlace) -> KeyPlace
     ensures value { result ≡ key_place skeleton.now part }
     ensures within { IsKeyWithin (length skeleton.now.leads) result }
 {
-    match Kinded::kind(skeleton, part.cell) {
+    match skeleton.kind(part.cell) {
         Some(Kind::Flat) => value_key(skeleton, part.cell, part.at),
         Some(Kind::Hash | Kind::Node) => pair_key(skeleton, part.part),
         _ => KeyPlace::NoKey,

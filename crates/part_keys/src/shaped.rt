@@ -2,7 +2,6 @@
 ghost use Rattle.std.specs.Prelude.{◌≡◌, ◌<◌, length, IfSome};
 ghost use Rattle.part_keys.specs.PartShapes.{list_value, shaped_part, whole_kind, IsShapedWithin};
 
-use cell_parts::Kinded;
 use heap_skeleton::{Kind, Skeleton};
 
 /// What is shown of a part, as a message.
@@ -20,7 +19,7 @@ fn list_value(skeleton: &Skeleton, part: u32) -> ShapedPart
     ensures value { result ≡ list_value skeleton.now part }
     ensures within { IsShapedWithin (length skeleton.now.leads) result }
 {
-    if matches!(Kinded::kind(skeleton, part), Some(Kind::List)) {
+    if matches!(skeleton.kind(part), Some(Kind::List)) {
         ShapedPart::Value(part)
     } else {
         ShapedPart::Cell(part)
@@ -33,7 +32,7 @@ fn whole_kind(skeleton: &Skeleton, cell: Option<u32>) -> Option<Kind>
     ensures { result ≡ whole_kind skeleton.now cell }
 {
     match cell {
-        Some(cell) => Kinded::kind(skeleton, cell),
+        Some(cell) => skeleton.kind(cell),
         None => None,
     }
 }

@@ -15,7 +15,7 @@ use Rattle.heap_weights.specs.Shares.{weight_below, weight_of, weights_from}
 use Rattle.heap_weights.specs.declared.holders.Holder.TheVariants.{Several}
 use Rattle.heap_weights.specs.declared.shares.Weight.{Weight}
 use Rattle.text_groups.specs.Sorting.{most_first}
-use Rattle.root_parts.specs.Roots.{all_roots, roots_elements}
+use Rattle.cell_parts.specs.Roots.{all_roots, roots_elements}
 use Rattle.tuple_fronts.specs.Fronts.{cells_for}
 use Rattle.part_keys.specs.Keys.{key_label}
 

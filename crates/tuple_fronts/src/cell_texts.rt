@@ -10,7 +10,6 @@ use crate::texts::Texts;
 use crate::tuples::Tuples;
 use crate::words::{kind_word, push_comma, push_end, push_pid, push_plain_with, push_tag};
 use cell_graphs::CellGraph;
-use cell_parts::Kinded;
 use heap_skeleton::Skeleton;
 use std::alloc::{AllocError, Global};
 use term_forms::shapes::Elem;
@@ -97,7 +96,7 @@ fn push_new_inner(
     if skeleton.is_tuple(cell) {
         push_inner_tuple(alloc, text, skeleton, tuples, cell, pids)
     } else {
-        text.extend_from_slice(kind_word(Kinded::kind(skeleton, cell)))
+        text.extend_from_slice(kind_word(skeleton.kind(cell)))
     }
 }
 
@@ -231,7 +230,7 @@ pub fn push_subject(
     if skeleton.is_tuple(cell) {
         push_subject_tuple(alloc, text, skeleton, tuples, inner, cell, pids)
     } else {
-        text.extend_from_slice(kind_word(Kinded::kind(skeleton, cell)))
+        text.extend_from_slice(kind_word(skeleton.kind(cell)))
     }
 }
 

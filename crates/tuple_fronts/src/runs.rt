@@ -16,6 +16,7 @@ fn is_listed(skeleton: &Skeleton, cell: u32) -> bool
     requires { cell < length skeleton.now.addresses }
     ensures { result ≡ is_listed skeleton.now cell }
 {
+    skeleton.leads_are_cells();
     matches!(skeleton.kind(cell), Some(Kind::Tuple | Kind::List))
 }
 

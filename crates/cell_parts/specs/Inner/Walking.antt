@@ -6,7 +6,7 @@ use Rattle.cell_graphs.specs.Counts.{count_below}
 use Rattle.cell_graphs.specs.Graphs.{Graph, places_at}
 use Rattle.cell_graphs.specs.Frontiers.{is_on}
 use Rattle.cell_parts.specs.Elements.{Spot, weighed_leads, placed_leads, spots_of, weighed_at}
-use Rattle.cell_parts.specs.Kinds.{cell_kind}
+use Rattle.heap_skeleton.specs.Kinds.{cell_kind}
 use Rattle.cell_parts.specs.Parts.{ArePartsOf, CellParts, PartElement}
 use Rattle.cell_parts.specs.declared.elements.Frame.{Frame}
 

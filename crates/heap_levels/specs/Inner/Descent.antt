@@ -4,7 +4,7 @@ use Rattle.std.specs.List.{zip}
 use Rattle.cell_parts.specs.Parts.{ArePartsOf, CellParts, PartElement}
 use Rattle.heap_skeleton.specs.Skeletons.{SkeletonMap}
 use Rattle.part_weights.specs.Weights.{Row}
-use Rattle.root_parts.specs.Over.{IsOver}
+use Rattle.cell_parts.specs.Over.{IsOver}
 use Rattle.heap_levels.specs.Inner.Plain.{Keyed, PartsMap, descent, keyed_with, last_parts, parts_with}
 use Rattle.part_keys.specs.KeyPlaces.{AreKeysWithin}
 use Rattle.part_keys.specs.PartShapes.{AreShapedWithin}

@@ -3,8 +3,8 @@ use Rattle.std.specs.Prelude.{ℕ, List, map}
 use Rattle.cell_parts.specs.Parts.{ArePartsOf, PartElement}
 use Rattle.dump_sections.specs.Sections.{Section}
 use Rattle.heap_skeleton.specs.Skeletons.{SkeletonMap}
-use Rattle.root_parts.specs.Over.{IsOver}
-use Rattle.root_parts.specs.Roots.{roots_at, roots_elements}
+use Rattle.cell_parts.specs.Over.{IsOver}
+use Rattle.cell_parts.specs.Roots.{roots_at, roots_elements}
 use Rattle.root_views.specs.Sections.{root_section}
 use Rattle.root_views.specs.declared.kinds.RootKind.{RootKind}
 use Rattle.root_views.specs.declared.kinds.RootKind.TheVariants.{Stack, Dict, Mail}

@@ -2,7 +2,7 @@
 use Rattle.std.specs.Prelude.{◌≡◌, ℕ, ◌<◌, true, Contains, List, [], length, map, slice_index_or, IfSome, Option, None, if◌then◌else◌}
 use Rattle.std.specs.List.{AllByRecursion}
 use Rattle.std.specs.Option.{option_map}
-use Rattle.cell_parts.specs.Kinds.{cell_kind}
+use Rattle.heap_skeleton.specs.Kinds.{cell_kind}
 use Rattle.heap_skeleton.specs.Skeletons.{SkeletonMap, is_tuple}
 use Rattle.tuple_fronts.specs.CellSets.{place_of}
 use Rattle.heap_ways.specs.Ways.{Line, Tails, Single, Way, WayRoot, address_of}

@@ -1,7 +1,7 @@
 -- The steps of a way from a place on.
 use Rattle.std.specs.Prelude.{ℕ, zero, suc, List, drop, slice_index_or, Option, None}
 use Rattle.cell_graphs.specs.Graphs.{Graph}
-use Rattle.cell_parts.specs.Kinds.{cell_kind}
+use Rattle.heap_skeleton.specs.Kinds.{cell_kind}
 use Rattle.cell_records.specs.declared.cells.Kind.{Kind}
 use Rattle.heap_ways.specs.Steps.{steps_from}
 use Rattle.heap_ways.specs.declared.steps.Step.{Step}

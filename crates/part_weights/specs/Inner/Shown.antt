@@ -7,7 +7,7 @@ use Rattle.heap_skeleton.specs.Skeletons.{SkeletonMap}
 use Rattle.heap_weights.specs.Shares.{AreShares}
 use Rattle.heap_weights.specs.declared.shares.Shares.{Shares}
 use Rattle.heap_weights.specs.declared.shares.Weight.{Weight}
-use Rattle.root_parts.specs.Over.{IsOver}
+use Rattle.cell_parts.specs.Over.{IsOver}
 use Rattle.part_weights.specs.Held.{no_part, row_at}
 use Rattle.part_weights.specs.Weights.{Row, Weighing}
 use Rattle.part_weights.specs.declared.held_parts.HeldPart.{HeldPart}

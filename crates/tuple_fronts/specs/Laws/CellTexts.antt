@@ -8,7 +8,7 @@ use Rattle.std.proofs.lemmas.List.{length-map, take-map}
 use Rattle.std.proofs.lemmas.List.Elements.{Contains-append_left, Contains-append_right}
 use Rattle.cell_graphs.specs.Graphs.{cell_in, places_at, places_of}
 use Rattle.cell_graphs.specs.Laws.HeapGraphs.{places-of}
-use Rattle.cell_parts.specs.Kinds.{cell_kind}
+use Rattle.heap_skeleton.specs.Kinds.{cell_kind}
 use Rattle.cell_records.specs.declared.cells.Kind.{Kind}
 use Rattle.dump_io.specs.Laws.Lists.{position-map}
 use Rattle.heap_cells.specs.Cells.{Cell, addresses, kind_of}

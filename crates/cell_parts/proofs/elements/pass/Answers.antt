@@ -9,18 +9,18 @@ use Rattle.cell_parts.proofs.Walking.{always}
 use Rattle.cell_parts.proofs.elements.pass.Goals as goal
 
 pub opened-requires-clause-within : goal.opened-requires-clause-within
-opened-requires-clause-within g c =
-    place-within (g.G.CellGraph.graph c.args.graph.now) c.args.at.cell c.args.at.place c.lead-lead.result c.requires.within c.lead-lead.ensures
+opened-requires-clause-within c =
+    place-within c.args.skeleton.now.leads c.args.at.cell c.args.at.place c.lead-lead.result c.requires.within c.lead-lead.ensures
 
 pub add_lead-requires-clause-within : goal.add_lead-requires-clause-within
-add_lead-requires-clause-within g c =
+add_lead-requires-clause-within c =
     rw c.requires.cells
-    (place-within (g.G.CellGraph.graph c.args.graph.now) c.args.at.cell c.args.at.place c.lead-lead.result c.requires.within c.lead-lead.ensures)
+    (place-within c.args.skeleton.now.leads c.args.at.cell c.args.at.place c.lead-lead.result c.requires.within c.lead-lead.ensures)
 
 pub returns-in-Some-clause-work : goal.returns-in-Some-clause-work
-returns-in-Some-clause-work g c =
-    let kinds = g.G.Kinded.kinds c.args.graph.now in
-    let graph = g.G.CellGraph.graph c.args.graph.now in
+returns-in-Some-clause-work c =
+    let kinds = c.args.skeleton.now.kinds in
+    let graph = c.args.skeleton.now.leads in
     let walk = c.args.walk.now in
     open-work kinds graph c.args.at c.lead-lead.result c.lead-lead.ensures walk.frames.items c.go_on.new.frames.items c.in_ok-go_on.ensures.waiting walk.passed.items
     c.open.result c.in-Some.next
@@ -31,9 +31,9 @@ returns-in-Some-clause-work g c =
     c.open.ensures.marks
 
 pub returns-in-Some-clause-walking : goal.returns-in-Some-clause-walking
-returns-in-Some-clause-walking g c = λ cell before same w.
-    let kinds = g.G.Kinded.kinds c.args.graph.now in
-    let graph = g.G.CellGraph.graph c.args.graph.now in
+returns-in-Some-clause-walking c = λ cell before same w.
+    let kinds = c.args.skeleton.now.kinds in
+    let graph = c.args.skeleton.now.leads in
     let walk = c.args.walk.now in
     open-walking kinds graph c.args.at c.lead-lead.result c.lead-lead.ensures walk.frames.items c.go_on.new.frames.items c.in_ok-go_on.ensures.waiting walk.passed.items
     c.open.result c.in-Some.next
@@ -43,18 +43,18 @@ returns-in-Some-clause-walking g c = λ cell before same w.
     c.open.ensures.marks w
 
 pub returns-in-None-clause-work : goal.returns-in-None-clause-work
-returns-in-None-clause-work g c =
-    let kinds = g.G.Kinded.kinds c.args.graph.now in
-    let graph = g.G.CellGraph.graph c.args.graph.now in
+returns-in-None-clause-work c =
+    let kinds = c.args.skeleton.now.kinds in
+    let graph = c.args.skeleton.now.leads in
     let walk = c.args.walk.now in
     always c.add_lead.result
     (weigh-work kinds graph c.args.at c.lead-lead.result c.lead-lead.ensures walk.frames.items c.go_on.new.frames.items c.in_ok-go_on.ensures.waiting walk.passed.items
     c.add_lead.result)
 
 pub returns-in-None-clause-walking : goal.returns-in-None-clause-walking
-returns-in-None-clause-walking g c = λ cell before same w.
-    let kinds = g.G.Kinded.kinds c.args.graph.now in
-    let graph = g.G.CellGraph.graph c.args.graph.now in
+returns-in-None-clause-walking c = λ cell before same w.
+    let kinds = c.args.skeleton.now.kinds in
+    let graph = c.args.skeleton.now.leads in
     let walk = c.args.walk.now in
     weigh-walking kinds graph c.args.at c.lead-lead.result c.lead-lead.ensures walk.frames.items c.go_on.new.frames.items c.in_ok-go_on.ensures.waiting walk.passed.items
     c.add_lead.result cell before c.args.parts.now c.add_lead.new.parts

@@ -12,9 +12,9 @@ use Rattle.root_views.specs.Sections.{root_section}
 use Rattle.root_views.specs.declared.kinds.RootKind.{RootKind}
 use Rattle.root_views.specs.declared.kinds.RootKind.TheVariants.{Stack, Dict, Mail}
 use Rattle.cell_parts.specs.Parts.{ArePartsOf, CellParts, PartElement}
-use Rattle.root_parts.specs.Roots.{root_elements, roots_at, roots_elements}
-use Rattle.root_parts.specs.declared.roots.RootParts.{RootParts}
-use Rattle.root_parts.specs.Inner.Hearing.{Gains, GainsAll, GainsElements, GainsSection}
+use Rattle.cell_parts.specs.Roots.{root_elements, roots_at, roots_elements}
+use Rattle.cell_parts.specs.declared.roots.RootParts.{RootParts}
+use Rattle.cell_parts.specs.Inner.Hearing.{Gains, GainsAll, GainsElements, GainsSection}
 
 -- elements behind elements
 GainsElements-then : (a b c : CellParts) (xs ys : List PartElement) → GainsElements a b xs → GainsElements b c ys → GainsElements a c (xs ++ ys)

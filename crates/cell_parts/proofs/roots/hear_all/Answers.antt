@@ -1,7 +1,7 @@
 use Rattle.std.proofs.Common.{◌∙◌}
 use Rattle.dump_sections.specs.Index.{sections_in}
-use Rattle.root_parts.proofs.HearFacts.{all-gains}
-use Rattle.root_parts.proofs.roots.hear_all.Goals as goal
+use Rattle.cell_parts.proofs.HearFacts.{all-gains}
+use Rattle.cell_parts.proofs.roots.hear_all.Goals as goal
 
 pub returns-clause-gains : goal.returns-clause-gains
 returns-clause-gains g c =

@@ -5,9 +5,9 @@ use Rattle.dump_sections.specs.Sections.{Section}
 use Rattle.root_views.specs.Roots.{BodyRoot}
 use Rattle.root_views.specs.declared.kinds.RootKind.{RootKind}
 use Rattle.cell_parts.specs.Parts.{ArePartsOf, CellParts, PartElement}
-use Rattle.root_parts.specs.Roots.{all_roots, roots_at, roots_elements}
-use Rattle.root_parts.specs.declared.roots.RootParts.{RootParts}
-use Rattle.root_parts.specs.Over.{IsOver}
+use Rattle.cell_parts.specs.Roots.{all_roots, roots_at, roots_elements}
+use Rattle.cell_parts.specs.declared.roots.RootParts.{RootParts}
+use Rattle.cell_parts.specs.Over.{IsOver}
 
 -- the parts are of as many cells as the skeleton has
 abbrev pub IsReady : RootParts → Type 0

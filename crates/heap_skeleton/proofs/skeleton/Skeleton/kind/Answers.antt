@@ -2,7 +2,7 @@ use Rattle.std.proofs.Common.{length, refl, sym, ◌∙◌, ap, arith, slice_get
 use Rattle.std.proofs.lemmas.Option.{slice_get_read}
 use Rattle.heap_skeleton.specs.Skeletons.{SkeletonMap}
 use Rattle.heap_skeleton.proofs.ShownFacts.{cells-shown}
-use Rattle.heap_skeleton.proofs.skeleton.SkeletonKinded.kind.Goals as goal
+use Rattle.heap_skeleton.proofs.skeleton.Skeleton.kind.Goals as goal
 
 pub index-requires : goal.index-requires
 index-requires c =

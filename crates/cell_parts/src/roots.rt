@@ -8,11 +8,11 @@ ghost use Rattle.dump_sections.specs.Loading.{bodies_length};
 ghost use Rattle.term_forms.specs.Seen.{element};
 ghost use Rattle.root_views.specs.Sections.{root_bodies, root_section};
 ghost use Rattle.cell_parts.specs.Parts.{ArePartsOf};
-ghost use Rattle.root_parts.specs.Roots.{all_roots, lead_to, roots_at, roots_elements};
-ghost use Rattle.root_parts.specs.Inner.Hearing.{Gains, GainsAll, GainsSection, IsReady};
-ghost use Rattle.root_parts.specs.Over.{IsOver};
+ghost use Rattle.cell_parts.specs.Roots.{all_roots, lead_to, roots_at, roots_elements};
+ghost use Rattle.cell_parts.specs.Inner.Hearing.{Gains, GainsAll, GainsSection, IsReady};
+ghost use Rattle.cell_parts.specs.Over.{IsOver};
 
-use cell_parts::Parts;
+use crate::parts::Parts;
 use dump_io::{Dumps, ReadFault};
 use dump_sections::Index;
 use heap_skeleton::Skeleton;

@@ -1,6 +1,6 @@
 use Rattle.dump_sections.specs.Bodies.{section_in}
-use Rattle.root_parts.proofs.HearFacts.{section-gains}
-use Rattle.root_parts.proofs.roots.hear_section.Goals as goal
+use Rattle.cell_parts.proofs.HearFacts.{section-gains}
+use Rattle.cell_parts.proofs.roots.hear_section.Goals as goal
 
 pub returns-clause-gains : goal.returns-clause-gains
 returns-clause-gains g c =
