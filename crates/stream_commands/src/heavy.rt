@@ -1,5 +1,5 @@
 // `heavy`: from the roots of a process down to where most of its memory hangs.
-ghost use Rattle.std.specs.Prelude.{◌≡◌, ◌≤◌};
+ghost use Rattle.std.specs.Prelude.{◌≤◌};
 ghost use Rattle.dump_questions.specs.Runs.{Runs};
 ghost use Rattle.dump_questions.specs.Tasks.{question};
 ghost use Rattle.stream_commands.specs.Rows.{heavy_row};

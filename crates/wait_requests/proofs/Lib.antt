@@ -4,6 +4,7 @@ pub mod ExternalFacts
 pub mod HeapFacts
 pub mod HeldFacts
 pub mod LongFacts
+pub mod MemoryFacts
 pub mod PayloadFacts
 pub mod PlaceFacts
 pub mod PoolFacts

@@ -9,10 +9,7 @@ use Rattle.std.proofs.lemmas.List.Sums.{sum_by_more, sum_by-take-le}
 use Rattle.std.proofs.lemmas.Option.{slice_get-map, unwrap_or-slice_get}
 use Rattle.dump_io.specs.Laws.Lists.{position-map}
 use Rattle.dump_io.specs.Laws.Texts.{bytes_eq-refl, bytes_eq-swap}
-use Rattle.dump_sections.specs.Bodies.{section_in}
-use Rattle.dump_sections.specs.Firsts.{Firsts}
 use Rattle.dump_sections.specs.Index.{Contents, sections_in}
-use Rattle.dump_sections.specs.Lookups.{first_named}
 use Rattle.link_graph.specs.Graph.{graph_of, links_of}
 use Rattle.link_graph.specs.Lists.{Links, links_at, no_links}
 use Rattle.link_graph.specs.Requests.{Request, requests_in}
@@ -21,13 +18,6 @@ use Rattle.process_table.specs.Processes.{Process, nobody, process_at}
 use Rattle.process_table.specs.Records.{PlacedSection, first_of_each, has_same_pid, pid_of, process_sections, placed_sections, records}
 use Rattle.wait_circles.specs.Waiters.{process_of, target_at, waiter_at, HaveOwnPids, Waiter}
 use Rattle.wait_requests.specs.Waits.{asked_first, memory_size, requests_of, wait_length, waiters_with, waits_length}
-
--- ---- sections
-
-pub section-of : (firsts : Firsts) (tag pid : List ℕ) (index : Contents) (place : Option ℕ) → firsts.tag ≡ tag → firsts.index ≡ index
-    → section_in firsts.index place ≡ first_named firsts.tag pid (sections_in firsts.index) → section_in index place ≡ first_named tag pid (sections_in index)
-section-of firsts tag pid index place tag_is over found =
-    sym (ap (λ i. section_in i place) over) ∙ found ∙ ap₂ (λ t i. first_named t pid (sections_in i)) tag_is over
 
 -- ---- the requests of a process
 

@@ -6,7 +6,7 @@ ghost use Rattle.wait_requests.specs.Inner.Reading.{external_form, external_line
 ghost use Rattle.wait_requests.specs.Inner.Seen.{shown_external, shown_sized};
 
 use crate::asked::Asked;
-use binary_payloads::{payload, payload_bytes_are_read, payload_is_of_one};
+use binary_payloads::{payload, payload_bytes_are_read};
 use etf_terms::reference_words;
 use std::alloc::AllocError;
 use term_forms::{Enc, heap_line};

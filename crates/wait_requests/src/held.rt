@@ -1,5 +1,5 @@
 // Finding the first request whose reference a process holds.
-ghost use Rattle.std.specs.Prelude.{◌≡◌, ◌<◌, codes, length, map, IfErr, IfOk, List, ℕ};
+ghost use Rattle.std.specs.Prelude.{◌≡◌, ◌<◌, length, map, IfErr, IfOk, List, ℕ};
 ghost use Rattle.std.specs.Option.{option_copied};
 ghost use Rattle.dump_io.specs.Dumps.{IfTold, ReadsAtMost};
 ghost use Rattle.dump_io.specs.Faults.{IsReadCauseOf};
@@ -7,18 +7,19 @@ ghost use Rattle.dump_sections.specs.Bodies.{body_in, body_size, section_in, IsP
 ghost use Rattle.dump_sections.specs.Index.{IsBuiltOver};
 ghost use Rattle.heap_cells.specs.Loading.{enc_of};
 ghost use Rattle.wait_requests.specs.Held.{first_slots, held};
-ghost use Rattle.wait_requests.specs.Waits.{asked_first, held_by, memory_size};
+ghost use Rattle.wait_requests.specs.Waits.{asked_first};
 ghost use Rattle.wait_requests.specs.Inner.Asking.{before_held};
 ghost use Rattle.wait_requests.specs.Inner.Hearing.{keyed, AreSlots};
-ghost use Rattle.wait_requests.specs.Inner.Memories.{AreMemories};
+ghost use Rattle.wait_requests.specs.Inner.Memories.{held_at, size_at};
 
 use crate::asked::Asked;
 use crate::heap_sink::HeapSink;
+use crate::memories::Memory;
 use crate::slot_sink::SlotSink;
 use binary_payloads::{payload_bytes_are_read, payload_is_of_one};
 use body_lines::{LinesFault, hear_body};
 use dump_io::{Dumps, ReadFault};
-use dump_sections::{FirstPlaces, FirstSections, Index};
+use dump_sections::{FirstPlaces, Index};
 use heap_cells::enc_of;
 use root_views::{RootKind, hear_roots};
 use std::alloc::Global;
@@ -101,50 +102,27 @@ fn first_held<D: Dumps>(
     }
 }
 
-/// The stacks and the heaps of an index, by their pids.
-#[derive(Drop)]
-pub(crate) struct Memories<'a> {
-    pub stacks: FirstSections<'a>,
-    pub heaps: FirstSections<'a>,
-}
-
-/// Finds the stacks and the heaps of an index.
-pub(crate) fn find_memories(alloc: Global, index: &Index) -> Result<Memories<'_>, ReadFault>
-    ensures found { IfOk result (AreMemories index.now) }
-    ensures fault { IfErr result (λ fault. fault ≡ ReadFault.Memory) }
-{
-    let Ok(stacks) = FirstSections::find(alloc, index, b"proc_stack") else {
-        return Err(ReadFault::Memory);
-    };
-    let Ok(heaps) = FirstSections::find(alloc, index, b"proc_heap") else {
-        return Err(ReadFault::Memory);
-    };
-    Ok(Memories { stacks, heaps })
-}
-
-/// Reads the stack and the heap of the process with a pid, and returns whom the first of its
+/// Reads the stack and the heap of a process, and returns whom the first of its
 /// requests asks whose reference it holds. The two buffers may hold anything.
 pub(crate) fn find_target<'a, D: Dumps>(
     alloc: Global,
     dumps: &mut D,
     index: &Index,
-    memories: &Memories<'_>,
-    pid: &[u8],
+    memory: Memory,
     asked: &Asked<'a>,
     roots: &mut Vec<u8>,
     lines: &mut [u8],
 ) -> Result<Option<&'a [u8]>, ReadFault>
     requires over { IsBuiltOver (D.state dumps.old).now index.now }
-    requires memories { AreMemories index.now memories.now }
+    requires stack { IsPlaceIn index.now memory.stack }
+    requires heap { IsPlaceIn index.now memory.heap }
     requires room { 4134 < length lines.old }
-    ensures reads { ReadsAtMost (D.state dumps.old) (D.state dumps.new)
-        (memory_size index.now pid.now) }
+    ensures reads { ReadsAtMost (D.state dumps.old) (D.state dumps.new) (size_at index.now memory) }
     ensures fault { IfErr result (IsReadCauseOf (D.state dumps.old) (D.state dumps.new)) }
     ensures target { IfOk result (λ target. IfTold (D.state dumps.old).now
-        (λ dump. option_copied target ≡ asked_first (held_by dump index.now pid.now) asked.now)) }
+        (λ dump. option_copied target ≡ asked_first (held_at dump index.now memory) asked.now)) }
 {
-    let slots = read_slots(alloc, dumps, index, memories.stacks.get(pid), roots)?;
-    let place = memories.heaps.get(pid);
-    let first = first_held(alloc, dumps, index, place, &slots, asked, lines)?;
+    let slots = read_slots(alloc, dumps, index, memory.stack, roots)?;
+    let first = first_held(alloc, dumps, index, memory.heap, &slots, asked, lines)?;
     Ok(asked.target(first))
 }

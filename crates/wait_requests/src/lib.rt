@@ -18,6 +18,7 @@ mod externals;
 mod heap_sink;
 mod held;
 mod laws;
+mod memories;
 mod slot_sink;
 mod tails;
 mod targets;

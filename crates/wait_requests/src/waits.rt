@@ -3,7 +3,7 @@ ghost use Rattle.std.specs.Prelude.{◌≡◌, ◌<◌, length, slice_index_or, 
 ghost use Rattle.std.specs.Option.{option_copied};
 ghost use Rattle.dump_io.specs.Dumps.{IfTold, ReadsAtMost};
 ghost use Rattle.dump_io.specs.Faults.{IsReadCauseOf};
-ghost use Rattle.dump_sections.specs.Index.{Contents, IsBuiltOver};
+ghost use Rattle.dump_sections.specs.Index.{Contents, IsBuiltOver, sections_in};
 ghost use Rattle.link_graph.specs.Graph.{graph_of};
 ghost use Rattle.process_table.specs.Processes.{AreProcessesOver, process_at};
 ghost use Rattle.wait_requests.specs.Waits.{target_of, targets_of, wait_length, waiters_with, waits_length};
@@ -11,7 +11,8 @@ ghost use Rattle.wait_requests.specs.Inner.Memories.{AreMemories};
 
 use crate::asked::Asked;
 use crate::heap_sink::HeapSink;
-use crate::held::{Memories, find_memories, find_target};
+use crate::held::find_target;
+use crate::memories::Memories;
 use crate::targets::Targets;
 use body_lines::make_buffer;
 use dump_io::{Dumps, ReadFault};
@@ -41,7 +42,7 @@ fn find_wait<'a, D: Dumps>(
     alloc: Global,
     dumps: &mut D,
     index: &Index,
-    memories: &Memories<'_>,
+    memories: &Memories,
     procs: &Procs,
     graph: &'a Graph<'_>,
     p: usize,
@@ -49,7 +50,7 @@ fn find_wait<'a, D: Dumps>(
     lines: &mut [u8],
 ) -> Result<Option<&'a [u8]>, ReadFault>
     requires over { IsBuiltOver (D.state dumps.old).now index.now }
-    requires memories { AreMemories index.now memories.now }
+    requires memories { AreMemories (sections_in index.now) procs.now.processes memories.now }
     requires process { p < length procs.now.processes }
     requires graph { graph.now ≡ graph_of procs.now.processes }
     requires room { 4134 < length lines.old }
@@ -64,16 +65,8 @@ fn find_wait<'a, D: Dumps>(
     if asked.len() == 0 {
         return Ok(None);
     }
-    find_target(
-        alloc,
-        dumps,
-        index,
-        memories,
-        procs.pid(p),
-        &asked,
-        roots,
-        lines,
-    )
+    let memory = memories.of(procs, p);
+    find_target(alloc, dumps, index, memory, &asked, roots, lines)
 }
 
 // Reads for whom each process waits.
@@ -81,13 +74,13 @@ fn find_waits<D: Dumps>(
     alloc: Global,
     dumps: &mut D,
     index: &Index,
-    memories: &Memories<'_>,
+    memories: &Memories,
     procs: &Procs,
     graph: &Graph<'_>,
     lines: &mut [u8],
 ) -> Result<Targets, ReadFault>
     requires over { IsBuiltOver (D.state dumps.old).now index.now }
-    requires memories { AreMemories index.now memories.now }
+    requires memories { AreMemories (sections_in index.now) procs.now.processes memories.now }
     requires graph { graph.now ≡ graph_of procs.now.processes }
     requires room { 4134 < length lines.old }
     ensures reads { ReadsAtMost (D.state dumps.old) (D.state dumps.new)
@@ -132,7 +125,7 @@ impl Waits {
             (λ dump. waits ≡ targets_of dump index.now procs.now.processes)) }
         ensures count { IfOk result (λ waits. length waits ≡ length procs.now.processes) }
     {
-        let memories = find_memories(alloc, index)?;
+        let memories = Memories::find(alloc, index, procs)?;
         let mut lines = make_buffer::<HeapSink<'_, '_>>(alloc)?;
         let targets = find_waits(alloc, dumps, index, &memories, procs, graph, &mut lines)?;
         Ok(Waits { targets })

@@ -3,8 +3,10 @@ use Rattle.std.specs.Option.{option_copied}
 use denote.Ref.{Bor}
 use Rattle.dump_io.specs.Dumps.{IfTold, ReadsAtMost}
 use Rattle.process_table.specs.Processes.{process_at}
-use Rattle.wait_requests.specs.Waits.{asked_first, held_by, memory_size, requests_of}
+use Rattle.wait_requests.specs.Waits.{asked_first, held_by, requests_of}
+use Rattle.wait_requests.specs.Inner.Memories.{held_at}
 use Rattle.wait_requests.proofs.HeldFacts.{if-ok}
+use Rattle.wait_requests.proofs.MemoryFacts.{held-there, size-there}
 use Rattle.wait_requests.proofs.WaitFacts.{asks-none, links-at, reads-memory}
 use Rattle.wait_requests.proofs.waits.find_wait.Goals as goal
 
@@ -22,7 +24,7 @@ returns-clause-reads g c =
     let asked = c.in_ok-asked.ensures ∙ links-at c.args.graph.now c.args.procs.now.processes c.args.p c.requires.graph c.requires.process in
     let many : length c.in_ok-asked.asked ≡ length (requests_of process) = ap length asked in
     subst (ReadsAtMost (d.state c.args.dumps.now) (d.state c.find_target.new.dumps))
-    (ap (memory_size index) c.pid.ensures ∙ sym (reads-memory index process (omega (arith, c.if-len-eq0.false, c.len.ensures, many))))
+    (size-there index process.pid c.of-memory.result (c.of-memory.ensures index c.requires.memories) ∙ sym (reads-memory index process (omega (arith, c.if-len-eq0.false, c.len.ensures, many))))
     c.find_target.ensures.reads
 
 pub returns-clause-target : goal.returns-clause-target
@@ -31,7 +33,8 @@ returns-clause-target g c =
     let index = c.args.index.now in
     let process = process_at c.args.procs.now.processes c.args.p in
     let asked = c.in_ok-asked.ensures ∙ links-at c.args.graph.now c.args.procs.now.processes c.args.p c.requires.graph c.requires.process in
-    if-ok (λ (target : Option (Bor (List ℕ))). IfTold now (λ dump. option_copied target ≡ asked_first (held_by dump index c.pid.result.now) c.in_ok-asked.asked))
+    if-ok (λ (target : Option (Bor (List ℕ))). IfTold now (λ dump. option_copied target ≡ asked_first (held_at dump index c.of-memory.result) c.in_ok-asked.asked))
     (λ (target : Option (Bor (List ℕ))). IfTold now (λ dump. option_copied target ≡ asked_first (held_by dump index process.pid) (requests_of process)))
-    (λ target says dump is. says dump is ∙ ap₂ (λ pid requests. asked_first (held_by dump index pid) requests) c.pid.ensures asked)
+    (λ target says dump is.
+    says dump is ∙ ap₂ asked_first (held-there index process.pid c.of-memory.result (c.of-memory.ensures index c.requires.memories) dump) asked)
     c.find_target.result c.find_target.ensures.target
