@@ -1,12 +1,13 @@
 -- From the cells of one depth to those of the next.
-use Rattle.std.proofs.Common.{◌≡◌, ℕ, suc, ◌+◌, ◌<◌, ◌≤◌, ◌==◌, Bool, true, false, ◌&&◌, ◌||◌, List, [], ◌∷◌, ◌++◌, length, drop, get_or, take, ◌-◌, Option, None, Some, refl, sym, ◌∙◌, ap, subst, inl, inr, arith, length-append}
-use Rattle.std.specs.Prelude.{All, is_none, slice_get}
+use Rattle.std.proofs.Common.{◌≡◌, ℕ, suc, ◌+◌, ◌<◌, ◌≤◌, ◌==◌, Bool, true, false, ◌&&◌, ◌||◌, List, [], ◌∷◌, ◌++◌, length, drop, take, ◌-◌, Option, None, Some, refl, sym, ◌∙◌, ap, subst, inl, inr, arith}
+use Rattle.std.specs.Prelude.{All, is_none}
 use Rattle.std.specs.List.{list_any}
-use Rattle.std.proofs.Math.Seq.{drop-append_seam}
+use Rattle.std.proofs.Math.Seq.{drop-append_seam, take-add}
 use Rattle.std.proofs.lemmas.Bool.{eq-eqb, eqb-true, ne_eqb, false≢true, or_cases, or_left, or_right}
 use Rattle.std.proofs.lemmas.List.Elements.{All-append}
-use Rattle.std.proofs.lemmas.List.{get_or-drop, get_or_append_left, length-drop, take_all}
-use Rattle.std.proofs.lemmas.Option.{none-some, slice_get-get_or}
+use Rattle.std.proofs.lemmas.List.{drop-append-le, drop-drop, length-drop, take-append-le, take_all}
+use Rattle.std.proofs.lemmas.List.Folds.{list_any-append}
+use Rattle.std.proofs.lemmas.Option.{none-some}
 use Rattle.dump_io.specs.Laws.Lists.{same-bools}
 use Rattle.cell_graphs.specs.Frontiers.{is_on}
 use Rattle.cell_graphs.specs.Graphs.{Graph}
@@ -16,7 +17,6 @@ use Rattle.cell_ways.specs.Depths.{least_below}
 use Rattle.cell_ways.specs.Ways.{at_cell}
 use Rattle.cell_ways.specs.declared.search.Search.{Search}
 use Rattle.cell_ways.specs.Inner.Search.{is_depth, is_led_by, or_given, AreDepths, Finds, IsSearched}
-use Rattle.cell_ways.proofs.Giving.{any-more}
 use Rattle.cell_ways.proofs.Least.{least-at, least-found, least-none}
 use Rattle.cell_ways.proofs.Rounding.{round-late, round-leads, round-led}
 
@@ -40,16 +40,18 @@ member-any test (x ∷ xs) is =
 
 -- ---- the cells in the queue
 
--- of those of one depth one more
-pub led-more : (graph : Graph) (queue : List ℕ) (from place past cell n : ℕ) → from ≤ place → place < length queue → get_or queue place past ≡ cell
-    → is_led_by graph (take (place + 1 - from) (drop from queue)) n ≡ (is_led_by graph (take (place - from) (drop from queue)) n || leads_to graph cell n)
-led-more graph queue from place past cell n behind inside is =
-    let next : place + 1 - from ≡ place - from + 1 = omega (arith, behind) in
+-- of those of one depth some more
+pub led-more : (graph : Graph) (queue : List ℕ) (from place next n : ℕ) → from ≤ place → place ≤ next
+    → is_led_by graph (take (next - from) (drop from queue)) n
+    ≡ (is_led_by graph (take (place - from) (drop from queue)) n || is_led_by graph (take (next - place) (drop place queue)) n)
+led-more graph queue from place next n behind later =
+    let both : next - from ≡ (place - from) + (next - place) = omega (arith, behind, later) in
     let back : from + (place - from) ≡ place = omega (arith, behind) in
-    let within : place - from < length (drop from queue) = omega (arith, behind, inside, length-drop from queue) in
-    let at : slice_get (drop from queue) (place - from) ≡ Some cell =
-    slice_get-get_or (drop from queue) (place - from) past within ∙ ap Some (get_or-drop from queue (place - from) past ∙ ap (λ i. get_or queue i past) back ∙ is) in
-    ap (λ i. is_led_by graph (take i (drop from queue)) n) next ∙ any-more (λ m. leads_to graph m n) (drop from queue) (place - from) cell at
+    ap (λ i. is_led_by graph (take i (drop from queue)) n) both
+    ∙ ap (λ cells. is_led_by graph cells n) (take-add (place - from) (next - place) (drop from queue))
+    ∙ list_any-append (λ m. leads_to graph m n) (take (place - from) (drop from queue)) (take (next - place) (drop (place - from) (drop from queue)))
+    ∙ ap (λ q. is_led_by graph (take (place - from) (drop from queue)) n || is_led_by graph (take (next - place) q) n)
+    (drop-drop (place - from) from queue ∙ ap (λ i. drop i queue) back)
 
 -- all of them
 pub led-all : (graph : Graph) (queue : List ℕ) (from place n : ℕ) → from ≤ place → length queue ≤ place
@@ -57,18 +59,13 @@ pub led-all : (graph : Graph) (queue : List ℕ) (from place n : ℕ) → from �
 led-all graph queue from place n past all =
     ap (λ cells. is_led_by graph cells n) (sym (take_all (place - from) (drop from queue) (omega (arith, past, all, length-drop from queue))))
 
--- the cells in the queue stay cells
-pub queue-within : (a b : Search) (depth size : ℕ) (which : ℕ → Bool) → length a.depths.items ≡ size → All (λ n. n < size) a.queue.items → Finds a b depth which → All (λ n. n < size) b.queue.items
-queue-within a b depth size which same all finds =
-    subst (All (λ n. n < size)) (sym finds.queue)
-    (All-append (λ n. n < size) a.queue.items finds.found all (subst (λ most. All (λ n. n < most) finds.found) same finds.within))
-
--- what stands in the queue at a place stays there
-pub queue-at : (a b : Search) (depth place past : ℕ) (which : ℕ → Bool) → place < length a.queue.items → Finds a b depth which → get_or b.queue.items place past ≡ get_or a.queue.items place past
-queue-at a b depth place past which inside finds = ap (λ q. get_or q place past) finds.queue ∙ get_or_append_left a.queue.items finds.found past place inside
-
-pub queue-grown : (a b : Search) (depth : ℕ) (which : ℕ → Bool) → Finds a b depth which → length a.queue.items ≤ length b.queue.items
-queue-grown a b depth which finds = omega (arith, ap length finds.queue, length-append a.queue.items finds.found)
+-- what stands in the queue from one place up to another stays there
+pub queue-part : (a b : Search) (depth place next : ℕ) (which : ℕ → Bool) → place ≤ next → next ≤ length a.queue.items → Finds a b depth which
+    → take (next - place) (drop place b.queue.items) ≡ take (next - place) (drop place a.queue.items)
+queue-part a b depth place next which later inside finds =
+    ap (λ q. take (next - place) (drop place q)) finds.queue
+    ∙ ap (take (next - place)) (drop-append-le place a.queue.items finds.found (omega (arith, later, inside)))
+    ∙ take-append-le (next - place) (drop place a.queue.items) finds.found (omega (arith, later, inside, length-drop place a.queue.items))
 
 -- ---- depths
 

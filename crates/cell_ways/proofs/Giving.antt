@@ -179,7 +179,7 @@ finds-same a b depth P Q one same = record {
 
 -- ---- lists of which one more passes
 
-or-false : (b : Bool) → (b || false) ≡ b
+pub or-false : (b : Bool) → (b || false) ≡ b
 or-false true = refl
 or-false false = refl
 

@@ -1,4 +1,5 @@
 pub mod Deepening
+pub mod Gathering
 pub mod Giving
 pub mod Lawful
 pub mod Least

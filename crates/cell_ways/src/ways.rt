@@ -48,7 +48,8 @@ fn walk_back(alloc: Global, befores: &[u32], steps: u32, cell: u32) -> Result<Ve
 impl Ways {
     /// The depths of a graph's cells below these roots, and the ways to them. A root may be named more than once.
     ///
-    /// Takes 8 bytes for each cell, and 4 more meanwhile. A graph of 2^32 - 1 cells is answered as want of memory.
+    /// Takes 8 bytes for each cell, and meanwhile 4 more, and 4 for each place of 64 cells at a time. A graph of 2^32 - 1
+    /// cells is answered as want of memory.
     pub fn of<G: CellGraph>(alloc: Global, graph: &G, roots: &[u32]) -> Result<Ways, AllocError>
         requires { All (λ n. n < length (G.graph graph.now)) roots.now }
         ensures { IfOk result (AreWays (G.graph graph.now) (λ n. is_on n roots.now)) }

@@ -1,5 +1,5 @@
 -- The search of depths, one depth after the other.
-use Rattle.std.specs.Prelude.{◌≡◌, ℕ, suc, ◌<◌, ◌==◌, Bool, false, ◌&&◌, List, ◌++◌, length, drop, is_none, All, Option, None, Some, if◌then◌else◌}
+use Rattle.std.specs.Prelude.{◌≡◌, ℕ, suc, ◌<◌, ◌==◌, Bool, false, ◌&&◌, ◌||◌, List, ◌++◌, length, drop, is_none, All, Option, None, Some, if◌then◌else◌}
 use Rattle.std.specs.List.{list_any}
 use Rattle.std.specs.Option.{option_map_or, option_or}
 use Rattle.cell_graphs.specs.Frontiers.{is_on}
@@ -25,6 +25,11 @@ pub record Finds (old new : Search) (depth : ℕ) (set : ℕ → Bool) : Type 0 
   pub queue : new.queue.items ≡ old.queue.items ++ found
   pub within : All (λ n. n < length old.depths.items) found
   pub which : (n : ℕ) → n < length old.depths.items → is_on n found ≡ (set n && is_none (at_cell old.depths.items n))
+
+-- the cells of a set were put behind others, and all are below a bound if the others are
+pub record Gathers (size : ℕ) (old new : List ℕ) (set : ℕ → Bool) : Type 0 where
+  pub within : All (λ n. n < size) old → All (λ n. n < size) new
+  pub which : (n : ℕ) → is_on n new ≡ (is_on n old || set n)
 
 -- whether one of these cells leads to another
 abbrev pub is_led_by : Graph → List ℕ → ℕ → Bool

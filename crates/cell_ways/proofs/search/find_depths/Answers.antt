@@ -5,8 +5,8 @@ use Rattle.cell_ways.proofs.search.find_depths.Goals as goal
 
 pub loop-depth-init : goal.loop-depth-init
 loop-depth-init g c =
-    searched-roots (g.G.CellGraph.graph c.args.graph.now) (λ n. is_on n c.args.roots.now) c.in_ok-search.search c.add_roots.new.search c.args.roots.now (λ n. refl)
-    (c.in_ok-search.ensures.size ∙ c.cells.ensures.value) c.in_ok-search.ensures.none c.in_ok-search.ensures.queue c.in_ok-add_roots.ensures
+    searched-roots (g.G.CellGraph.graph c.args.graph.now) (λ n. is_on n c.args.roots.now) c.in_ok-search.search c.add_all.new.search c.args.roots.now (λ n. refl)
+    (c.in_ok-search.ensures.size ∙ c.cells.ensures.value) c.in_ok-search.ensures.none c.in_ok-search.ensures.queue c.in_ok-add_all.ensures
 
 pub loop-depth-preserved : goal.loop-depth-preserved
 loop-depth-preserved g c =
