@@ -5,6 +5,8 @@
 //   bench procs FILE BYTES PROCESSES  writes a dump of so many bytes and processes, each with a body of about 300
 //                                     bytes and a heap, and prints how many bytes a process table keeps of them
 //   bench stacks FILE PROCESSES       writes a dump of so many processes, each with ten infos on its stack, at fifty places in all
+//   bench waits FILE PROCESSES        writes a dump of so many processes, each with one monitor, whose reference it holds in the
+//                                     first frame of a stack of ten words, and a heap of ten lines
 //   bench list FILE CELLS ORDER       writes a dump with one process, whose dictionary refers to its first cell, and whose
 //                                     heap is a list of so many cells, 40 bytes each with their LF; with ORDER 1 their
 //                                     addresses stand in no order
@@ -89,6 +91,38 @@ static int write_stacks(const char *name, long count) {
         for (long k = 0; k < 10; k++)
             fprintf(f, "0x%016lX:SReturn addr 0x%016lX (module_%ld:function_%ld/2 + %ld)\ny0:I%ld\n", i * 4096 + k * 16,
                 i * 7 % 50 * 4096 + k * 64, i * 7 % 50, k, k * 64, i);
+    }
+    fprintf(f, "=end\n");
+    return fclose(f) != 0;
+}
+
+// The line of the reference whose text the process with this number has in its link list.
+static void write_reference(FILE *f, long address, unsigned long i) {
+    static const char digits[] = "ABCDEFGHIJKLMNOPQRSTUVWXYZabcdefghijklmnopqrstuvwxyz0123456789+/";
+    unsigned char bytes[24] = {131, 90, 0, 3, 119, 1, 'a', 0, 0, 0, 1, 0, 0, 0, 0, 0, 0, 0, 2, 0, 0, 0, 1};
+    for (int k = 0; k < 4; k++) bytes[11 + k] = i >> (24 - 8 * k) & 255;
+    char text[33] = {0};
+    for (int k = 0; k < 8; k++) {
+        unsigned long three = bytes[3 * k] << 16 | bytes[3 * k + 1] << 8 | bytes[3 * k + 2];
+        for (int d = 0; d < 4; d++) text[4 * k + d] = digits[three >> (18 - 6 * d) & 63];
+    }
+    text[31] = '=';
+    fprintf(f, "%012lX:E17:%s\n", address, text);
+}
+
+static int write_waits(const char *name, long count) {
+    FILE *f = fopen(name, "w");
+    if (!f) return 1;
+    long kept = 0;
+    fprintf(f, "=erl_crash_dump:0.5\nSlogan: a benchmark\n");
+    for (long i = 1; i <= count; i++) write_process(f, i, &kept);
+    for (long i = 1; i <= count; i++) {
+        fprintf(f, "=proc_stack:<0.%ld.0>\n0x%016lX:SReturn addr 0x%016lX (gen:do_call/4 + 312)\ny0:H%012lX\ny1:I%ld\ny2:[]\ny3:I1\ny4:I2\n", i,
+            i * 4096, 4096L, i * 4096, i);
+        fprintf(f, "0x%016lX:SReturn addr 0x%016lX (worker:ask/2 + 80)\ny0:[]\ny1:I3\ny2:I4\n", i * 4096 + 48, 8192L);
+        fprintf(f, "=proc_heap:<0.%ld.0>\n", i);
+        write_reference(f, i * 4096, i);
+        for (long k = 1; k < 10; k++) fprintf(f, "%012lX:lI%08ld|H%012lX\n", i * 4096 + 16 * k, k, i * 4096 + 16 * (k + 1));
     }
     fprintf(f, "=end\n");
     return fclose(f) != 0;
@@ -386,6 +420,7 @@ int main(int count, char **words) {
     if (count == 5 && !strcmp(words[1], "write")) return write_dump(words[2], atol(words[3]), atol(words[4]));
     if (count == 5 && !strcmp(words[1], "procs")) return write_processes(words[2], atol(words[3]), atol(words[4]));
     if (count == 4 && !strcmp(words[1], "stacks")) return write_stacks(words[2], atol(words[3]));
+    if (count == 4 && !strcmp(words[1], "waits")) return write_waits(words[2], atol(words[3]));
     if (count == 5 && !strcmp(words[1], "list")) return write_list(words[2], atol(words[3]), atoi(words[4]));
     if (count == 5 && !strcmp(words[1], "messages")) return write_messages(words[2], atol(words[3]), atol(words[4]));
     if (count == 4 && !strcmp(words[1], "tuples")) return write_tuples(words[2], atol(words[3]));

@@ -1,10 +1,10 @@
 #!/bin/sh
 # Times `edump index` and `edump info` on a dump of 1 GiB, once with 500,000 and once with 900,000 sections, warm, beside a
 # C loop and grep; then `edump procs`, `edump field` and `edump triage` on a dump of 1 GiB with 200,000 processes, beside `edump index` and
-# a program in C that only reads the same, and `edump stacks` beside `edump procs`; then the load of heaps, beside the reading
+# a program in C that only reads the same, and `edump stacks` and `edump waits` beside `edump procs`; then the load of heaps, beside the reading
 # of their lines through `heap_line` and `form`, `edump term` beside a program in C that writes the same, and the walk of a
 # term; then `edump peek` of ten messages beside a program in C that looks for each line's address, and beside `edump mail`, and
-# `edump weigh` beside `edump reach` or, of a heap of 4 GiB, beside `edump peek`, and `edump shapes` beside `edump weigh`;
+# `edump weigh` beside `edump reach` or, of a heap of 4 GiB, beside `edump peek`, `edump path`, `edump heavy` and `edump shapes` beside `edump weigh`;
 # then the previews of binaries, and `edump binaries` beside `edump index` and a program in C that reads the same; then an external term, read and written;
 # then `edump audit` beside `edump procs`, and `edump audit-json` beside `edump audit`; and then `edump redact` of a dump of
 # 1 GiB beside `cat`, each into a file that isn't there before. Each command runs in turn for a number of rounds; the script
@@ -108,6 +108,19 @@ tell procs "edump procs" procs "itself"
 tell stacks "edump stacks" procs "edump procs"
 rm -f "$dump"
 
+# For whom processes wait: each has a monitor, and holds its reference in a stack of ten words and a heap of ten lines.
+rm -f "$folder"/*.times
+"$bench" waits "$dump" "$processes" || exit 1
+sync "$dump"
+for _ in $(seq "$rounds"); do
+    round procs /dev/null "$edump" procs "$dump"
+    round waits /dev/null "$edump" waits "$dump"
+done
+echo "a dump of $(wc -c <"$dump") bytes, $processes processes that wait:"
+tell procs "edump procs" procs "itself"
+tell waits "edump waits" procs "edump procs"
+rm -f "$dump"
+
 # Heaps: the reading of the lines alone, the load of the heap, the walk of its one term, and what its one root reaches.
 for shape in "list 1000000 0" "list 10000000 1" "tuples 1000000"; do
     rm -f "$folder"/*.times
@@ -145,6 +158,7 @@ for cells in 1000000 10000000 100000000; do
     rm -f "$folder"/*.times
     "$bench" messages "$dump" "$cells" 10 || exit 1
     sync "$dump"
+    last=$(tail -n 2 "$dump" | head -n 1 | cut -d : -f 1)
     for _ in $(seq "$rounds"); do
         round addresses /dev/null "$bench" addresses "$dump"
         round peek /dev/null "$edump" peek "$dump" "<0.1.0>" mail 0 10
@@ -152,6 +166,8 @@ for cells in 1000000 10000000 100000000; do
         [ "$cells" -gt 10000000 ] && continue
         round mail /dev/null "$edump" mail "$dump" "<0.1.0>"
         round reach /dev/null "$edump" reach "$dump" "<0.1.0>"
+        round path /dev/null "$edump" path "$dump" "<0.1.0>" "$last"
+        round heavy /dev/null "$edump" heavy "$dump" "<0.1.0>"
     done
     echo "a heap of $cells cells, ten messages, $(wc -c <"$dump") bytes:"
     tell addresses "the addresses" addresses itself
@@ -163,6 +179,8 @@ for cells in 1000000 10000000 100000000; do
     tell mail "edump mail" peek "edump peek"
     tell reach "edump reach" mail "edump mail"
     tell weigh "edump weigh" reach "edump reach"
+    tell path "edump path" weigh "edump weigh"
+    tell heavy "edump heavy" weigh "edump weigh"
 done
 
 # A million messages of such a heap: what kinds of them there are, and which holds how much.
