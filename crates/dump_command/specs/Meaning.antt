@@ -3,7 +3,8 @@ use Rattle.dump_questions.specs.Meaning.{Meaning}
 use Rattle.command_words.specs.Command.{Ask, index, info, procs, proc, memory, field, table, triage, links, audit, audit_json, audit_settled, roots, term, peek_term, peek_roots, ext, reach, cells, binary, shapes, weigh, weigh_cell, heavy, binaries, holders, stacks, redact, fields, path, waits}
 use Rattle.table_commands.specs.Rows.{index_row, info_row, procs_row, proc_row, memory_row, field_row, table_row, triage_row, links_row, audit_row, audit_json_row, audit_settled_row, fields_row}
 use Rattle.heap_commands.specs.Rows.{roots_row, term_row, peek_term_row, peek_roots_row, ext_row, reach_row, cells_row, binary_row}
-use Rattle.stream_commands.specs.Rows.{path_row, shapes_row, weigh_row, weigh_cell_row, heavy_row, holders_row, binaries_row, stacks_row, redact_row, waits_row}
+use Rattle.stream_commands.specs.Rows.{holders_row, binaries_row, stacks_row, redact_row, waits_row}
+use Rattle.skeleton_commands.specs.Rows.{path_row, shapes_row, weigh_row, weigh_cell_row, heavy_row}
 
 -- the row of each question
 abbrev pub meaning : Ask → Meaning

@@ -11,11 +11,9 @@ use dump_questions::{Stop, Unopened};
 use heap_commands::{
     run_binary, run_cells, run_ext, run_peek_roots, run_peek_term, run_reach, run_roots, run_term,
 };
+use skeleton_commands::{run_heavy, run_path, run_shapes, run_weigh, run_weigh_cell};
 use std::alloc::Global;
-use stream_commands::{
-    run_binaries, run_heavy, run_holders, run_path, run_redact, run_shapes, run_stacks, run_waits,
-    run_weigh, run_weigh_cell,
-};
+use stream_commands::{run_binaries, run_holders, run_redact, run_stacks, run_waits};
 use table_commands::{
     run_audit, run_audit_json, run_audit_settled, run_field, run_fields, run_index, run_info,
     run_links, run_make, run_memory, run_proc, run_procs, run_table, run_triage, run_trial,

@@ -8,8 +8,8 @@
 //! let status = run(rt.alloc(), &words, &Limits::usual(), &mut dumps, &mut out, &mut err);
 //! ```
 //!
-//! What each command means, reads and writes stands in table_commands, heap_commands
-//! and stream_commands; here stands which command each of them is.
+//! What each command means, reads and writes stands in table_commands, heap_commands,
+//! skeleton_commands and stream_commands; here stands which command each of them is.
 #![tactic(auto)]
 
 mod commands;

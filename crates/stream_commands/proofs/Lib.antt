@@ -1,8 +1,4 @@
-mod CutLoads
 mod HolderLoads
-mod PathLoads
 mod Redacting
-pub mod RowFacts
 mod WaitFacts
 mod WaitLoads
-mod WeightLoads

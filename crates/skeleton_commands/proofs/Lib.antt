@@ -1,0 +1,4 @@
+mod CutLoads
+mod PathLoads
+pub mod RowFacts
+mod WeightLoads

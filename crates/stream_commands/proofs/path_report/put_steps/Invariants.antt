@@ -1,9 +1,0 @@
-use Rattle.std.proofs.Common.{take}
-use Rattle.std.specs.List.{flat_map}
-use Rattle.dump_io.specs.Sinks.{HasPut}
-use Rattle.stream_commands.specs.Paths.{step_line}
-use Rattle.stream_commands.proofs.path_report.put_steps.Given as goal
-
--- the lines of the steps so far are written
-abbrev pub invariant-loop-i : goal.invariant-loop-i
-invariant-loop-i g l = HasPut (g.K.Sink.state l.initial.sink) (g.K.Sink.state l.sink) (flat_map step_line (take l.i l.way.lines))
