@@ -158,7 +158,6 @@ for cells in 1000000 10000000 100000000; do
     rm -f "$folder"/*.times
     "$bench" messages "$dump" "$cells" 10 || exit 1
     sync "$dump"
-    last=$(tail -n 2 "$dump" | head -n 1 | cut -d : -f 1)
     for _ in $(seq "$rounds"); do
         round addresses /dev/null "$bench" addresses "$dump"
         round peek /dev/null "$edump" peek "$dump" "<0.1.0>" mail 0 10
@@ -166,8 +165,6 @@ for cells in 1000000 10000000 100000000; do
         [ "$cells" -gt 10000000 ] && continue
         round mail /dev/null "$edump" mail "$dump" "<0.1.0>"
         round reach /dev/null "$edump" reach "$dump" "<0.1.0>"
-        round path /dev/null "$edump" path "$dump" "<0.1.0>" "$last"
-        round heavy /dev/null "$edump" heavy "$dump" "<0.1.0>"
     done
     echo "a heap of $cells cells, ten messages, $(wc -c <"$dump") bytes:"
     tell addresses "the addresses" addresses itself
@@ -179,9 +176,22 @@ for cells in 1000000 10000000 100000000; do
     tell mail "edump mail" peek "edump peek"
     tell reach "edump reach" mail "edump mail"
     tell weigh "edump weigh" reach "edump reach"
-    tell path "edump path" weigh "edump weigh"
-    tell heavy "edump heavy" weigh "edump weigh"
 done
+
+# A message for each list of such a heap, so that every cell is reached: the way to the last of them, and where most of it hangs.
+rm -f "$folder"/*.times
+"$bench" messages "$dump" 10000000 100000 || exit 1
+sync "$dump"
+last=$(tail -n 2 "$dump" | head -n 1 | cut -d : -f 1)
+for _ in $(seq "$rounds"); do
+    round weigh /dev/null "$edump" weigh "$dump" "<0.1.0>"
+    round path /dev/null "$edump" path "$dump" "<0.1.0>" "$last"
+    round heavy /dev/null "$edump" heavy "$dump" "<0.1.0>"
+done
+echo "a heap of 10000000 cells, a message for each list, $(wc -c <"$dump") bytes:"
+tell weigh "edump weigh" weigh itself
+tell path "edump path" weigh "edump weigh"
+tell heavy "edump heavy" weigh "edump weigh"
 
 # A million messages of such a heap: what kinds of them there are, and which holds how much.
 rm -f "$folder"/*.times
