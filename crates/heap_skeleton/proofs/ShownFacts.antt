@@ -2,7 +2,7 @@
 use Rattle.std.proofs.Common.{◌≡◌, ℕ, zero, suc, ◌+◌, ◌-◌, ◌<◌, ◌≤◌, ◌==◌, ◌^◌, Bool, true, false, cond, List, [], ◌∷◌, ◌++◌, length, get_or, drop, map, Option, None, Some, refl, sym, ◌∙◌, ap, ap₂, subst, arith, append_assoc, length-append}
 use Rattle.std.specs.Prelude.{slice_get, slice_range, position, unwrap_or}
 use Rattle.std.specs.List.{flat_map}
-use Rattle.std.specs.Option.{option_and_then, option_map}
+use Rattle.std.specs.Option.{option_and_then, option_map, option_map_or}
 use Rattle.std.proofs.lemmas.Bool.{false_from_ne_true, eqb-true}
 use Rattle.std.proofs.lemmas.List.{get_or-drop, get_or-take, length-map, length-take, map-append}
 use Rattle.std.proofs.lemmas.Option.{slice_get-get_or, slice_get-map}
@@ -28,7 +28,7 @@ use Rattle.heap_graph.specs.Held.{HeapLine, addresses_of, line_at, line_kind, li
 use Rattle.heap_graph.specs.Leads.{cell_for, lead_of, leads_in, marks, nowhere, references}
 use Rattle.cell_records.specs.Order.{number_with, IsOrder}
 use Rattle.heap_skeleton.specs.Inner.Resolving.{AreResolved}
-use Rattle.heap_skeleton.specs.Inner.Shown.{leads_from, shown_skeleton, skeleton_with, start_of, AreLaid, IsSound, IsSpanOf}
+use Rattle.heap_skeleton.specs.Inner.Shown.{leads_from, shown_skeleton, skeleton_with, start_of, starts_of, AreLaid, IsSound, IsSpanOf}
 use Rattle.heap_skeleton.specs.Inner.Targets.{bin_with, is_bin, led_to, resolved}
 use Rattle.heap_skeleton.specs.Skeletons.{SkeletonMap}
 use Rattle.heap_graph.specs.Words.{words_in}
@@ -56,6 +56,21 @@ span-at parts leads i from upto inside laid from_is upto_is =
     subst (λ (s : ℕ × ℕ). IsSpanOf parts leads i s)
     (ap₂ (λ a b. (a, b)) (sym from_is) (ap (λ n. start_at parts n (length leads)) next ∙ sym upto_is))
     (span-suc parts leads i inside laid)
+
+-- where the elements of a part begin, as it is kept by itself
+pub start-in : (parts : List CellPart) (starts : List ℕ) (i total : ℕ) → starts ≡ starts_of parts → unwrap_or (slice_get starts i) total ≡ start_at parts i total
+start-in parts starts i total are =
+    ap (λ l. unwrap_or (slice_get l i) total) are
+    ∙ ap (λ o. unwrap_or o total) (slice_get-map (λ (p : CellPart). p.first) parts i)
+    ∙ by (slice_get parts i)
+  where
+    by : (o : Option CellPart) → unwrap_or (option_map (λ (p : CellPart). p.first) o) total ≡ option_map_or (λ (p : CellPart). p.first) o total
+    by (Some p) = refl
+    by None = refl
+
+-- as many begin as there are parts
+pub starts-count : (parts : List CellPart) (starts : List ℕ) → starts ≡ starts_of parts → length starts ≡ length parts
+starts-count parts starts are = ap length are ∙ length-map parts (λ (p : CellPart). p.first)
 
 -- so many cells have leads
 leads-count : (parts : List CellPart) (leads : List ℕ) → length (leads_from parts leads) ≡ length parts

@@ -2,7 +2,7 @@
 //!
 //! [`Skeleton::load`] reads the first `proc_heap` section of a pid and the first `literals` section once, in pieces of at
 //! most 65,536 bytes, whatever their lengths. The cells are those of `heap_cells`, with the same numbers. Of each cell is
-//! kept where its line begins in the file, its kind, its words, and the cells to which it leads: 29 bytes for a cell, and 4
+//! kept where its line begins in the file, its kind, its words, and the cells to which it leads: 33 bytes for a cell, and 4
 //! for each of its elements. No text is kept. A skeleton is a [`CellGraph`](cell_graphs::CellGraph) and
 //! [`Weighed`](cell_graphs::Weighed), as a heap in memory is, and says which kind each cell has.
 //!

@@ -1,5 +1,5 @@
 // What leads where in a heap.
-ghost use Rattle.std.specs.Prelude.{◌≡◌, ◌<◌, ◌≤◌, ◌^◌, List, length, Some, slice_get, position, ◌==◌, IfOk, IfErr, IfSome};
+ghost use Rattle.std.specs.Prelude.{◌≡◌, ◌<◌, ◌≤◌, ◌^◌, List, length, Some, slice_get, position, unwrap_or, ◌==◌, IfOk, IfErr, IfSome};
 ghost use Rattle.cell_graphs.specs.Graphs.{LeadsWithin};
 ghost use Rattle.heap_graph.specs.Binaries.{binaries_among};
 ghost use Rattle.cell_records.specs.Order.{AreAllFirst, AreRanked};
@@ -11,10 +11,11 @@ ghost use Rattle.heap_cells.specs.Loading.{heap_bodies};
 ghost use Rattle.heap_skeleton.specs.Skeletons.{is_tuple, skeleton_for};
 ghost use Rattle.heap_graph.specs.Elements.{IsOfLeads};
 ghost use Rattle.heap_graph.specs.Held.{HeapLine, addresses_of, IsHeld, IsSmall};
+ghost use Rattle.heap_graph.specs.declared.held.CellPart.{CellPart};
 ghost use Rattle.heap_graph.specs.Keeping.{HoldsLines};
 ghost use Rattle.heap_graph.specs.Leads.{cell_for};
 ghost use Rattle.heap_skeleton.specs.Inner.Resolving.{AreResolved};
-ghost use Rattle.heap_skeleton.specs.Inner.Shown.{skeleton_with, AreLaid, IsSpanOf};
+ghost use Rattle.heap_skeleton.specs.Inner.Shown.{skeleton_with, starts_of, AreLaid, IsSpanOf};
 
 use crate::loading::read_lines;
 use crate::resolving::resolve;
@@ -23,7 +24,7 @@ use cell_records::{Kind, Ranks, number_of};
 use dump_io::{Dumps, ReadFault};
 use dump_sections::Index;
 use heap_graph::{
-    CellPart, Elements, Held, Leads, NOWHERE, Ordered, Settled, is_binary_kind, settle, start_at,
+    CellPart, Elements, Held, Leads, NOWHERE, Ordered, Settled, is_binary_kind, settle,
 };
 use std::alloc::{AllocError, Global};
 use std::marker::Model;
@@ -33,6 +34,9 @@ use std::marker::Model;
 #[derive(Drop)]
 pub struct Skeleton {
     parts: Vec<CellPart>,
+    // For each cell the place of its first element, as its part has it. A walk needs no more of the cells to which it
+    // comes, and so of six times as many what it needs is still at hand.
+    starts: Vec<u32>,
     kinds: Vec<Option<Kind>>,
     // For each element the number of the cell to which it leads.
     leads: Vec<u32>,
@@ -43,13 +47,15 @@ pub struct Skeleton {
 
 impl Model for Skeleton {
     ghost use Rattle.heap_skeleton.specs.Skeletons.{SkeletonMap};
-    ghost use Rattle.heap_skeleton.specs.Inner.Shown.{shown_skeleton, IsSound};
+    ghost use Rattle.std.specs.Prelude.{◌≡◌};
+    ghost use Rattle.heap_skeleton.specs.Inner.Shown.{shown_skeleton, starts_of, IsSound};
 
     ghost Value = { SkeletonMap };
 
     ghost view = { λ s. shown_skeleton s.own s.parts.items s.kinds.items s.leads.items };
 
-    ghost invariant = { λ s. IsSound s.own s.parts.items s.kinds.items s.leads.items s.order.items };
+    ghost invariant = { λ s. IsSound s.own s.parts.items s.kinds.items s.leads.items s.order.items
+        × (s.starts.items ≡ starts_of s.parts.items) };
 }
 
 // The cell that a number stands for.
@@ -63,15 +69,36 @@ fn cell_for(number: u32) -> Option<u32>
     }
 }
 
+// Where the elements of a cell begin, or where all end if there is no such cell.
+fn start_in(starts: &[u32], i: usize, total: usize) -> usize
+    ensures { result ≡ unwrap_or (slice_get starts.now i) total }
+{
+    match starts.get(i) {
+        Some(start) => *start as usize,
+        None => total,
+    }
+}
+
+// For each cell the place of its first element.
+fn starts_of(alloc: Global, parts: &[CellPart]) -> Result<Vec<u32>, AllocError>
+    ensures { IfOk result (λ starts. starts.items ≡ starts_of parts.now) }
+{
+    let mut starts = Vec::with_capacity(alloc, parts.len())?;
+    for part in parts {
+        starts.push(part.first)?;
+    }
+    Ok(starts)
+}
+
 // Where the elements of a cell begin and end among those of all cells.
-fn span_of(parts: &[CellPart], leads: &[u32], cell: u32) -> (usize, usize)
-    requires cell { cell < length parts.now }
-    requires laid { AreLaid parts.now (length leads.now) }
-    ensures { IsSpanOf parts.now leads.now cell result }
+fn span_of(starts: &[u32], leads: &[u32], cell: u32) -> (usize, usize)
+    requires { cell < length starts.now }
+    ensures { (parts : List CellPart) → starts.now ≡ starts_of parts → AreLaid parts (length leads.now)
+        → IsSpanOf parts leads.now cell result }
 {
     let cell = cell as usize;
-    let from = start_at(parts, cell, leads.len());
-    let upto = start_at(parts, cell + 1, leads.len());
+    let from = start_in(starts, cell, leads.len());
+    let upto = start_in(starts, cell + 1, leads.len());
     (from, upto)
 }
 
@@ -123,9 +150,11 @@ fn skeleton_of(alloc: Global, ordered: Ordered) -> Result<Skeleton, AllocError>
     let numbers = resolve_leads(alloc, leads, &ranks, &parts, &kinds)?;
     parts.shrink_to_fit();
     kinds.shrink_to_fit();
+    let starts = starts_of(alloc, &parts)?;
     let order = ranks.numbers(alloc)?;
     Ok(Skeleton {
         parts,
+        starts,
         kinds,
         leads: numbers,
         order,
@@ -231,12 +260,12 @@ impl CellGraph for Skeleton {
     }
 
     fn places(&self, cell: u32) -> usize {
-        let (from, upto) = span_of(&self.parts, &self.leads, cell);
+        let (from, upto) = span_of(&self.starts, &self.leads, cell);
         upto - from
     }
 
     fn lead(&self, cell: u32, place: usize) -> Option<u32> {
-        let (from, _) = span_of(&self.parts, &self.leads, cell);
+        let (from, _) = span_of(&self.starts, &self.leads, cell);
         cell_for(self.leads[from + place])
     }
 }

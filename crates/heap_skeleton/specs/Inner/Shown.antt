@@ -14,6 +14,10 @@ abbrev pub start_of : List CellPart → ℕ → ℕ
 start_of [] total = total
 start_of (part ∷ parts) total = part.first
 
+-- for each part where its elements begin
+abbrev pub starts_of : List CellPart → List ℕ
+starts_of parts = map (λ part. part.first) parts
+
 -- the elements of each part: they end where those of the next begin
 abbrev pub leads_from : List CellPart → List ℕ → Graph
 leads_from [] leads = []

@@ -10,4 +10,4 @@ returns-clause-graph c =
     c.len.ensures ∙ s.parts.ok.0 ∙ sym (cells-shown s.own s.parts.items s.kinds.items s.leads.items c.args.self.now c.self.view_is)
 
 pub returns-clause-within : goal.returns-clause-within
-returns-clause-within c = subst LeadsWithin (ap (λ (v : SkeletonMap). v.leads) c.self.view_is) c.self.invariant.leads_within
+returns-clause-within c = subst LeadsWithin (ap (λ (v : SkeletonMap). v.leads) c.self.view_is) c.self.invariant.0.leads_within

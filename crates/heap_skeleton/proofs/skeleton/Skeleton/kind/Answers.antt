@@ -8,11 +8,11 @@ pub index-requires : goal.index-requires
 index-requires c =
     let s = c.self.inside in
     let count = cells-shown s.own s.parts.items s.kinds.items s.leads.items c.args.self.now c.self.view_is in
-    omega (arith, c.requires, count, c.self.invariant.kinds_are, s.kinds.ok.0)
+    omega (arith, c.requires, count, c.self.invariant.0.kinds_are, s.kinds.ok.0)
 
 pub returns : goal.returns
 returns c =
     let s = c.self.inside in
     let count = cells-shown s.own s.parts.items s.kinds.items s.leads.items c.args.self.now c.self.view_is in
     sym (ap (λ (v : SkeletonMap). slice_get v.kinds c.args.cell) c.self.view_is)
-    ∙ slice_get_read s.kinds.items (length s.kinds.items) c.args.cell c.index.result.now refl (omega (arith, c.requires, count, c.self.invariant.kinds_are)) c.index.ensures
+    ∙ slice_get_read s.kinds.items (length s.kinds.items) c.args.cell c.index.result.now refl (omega (arith, c.requires, count, c.self.invariant.0.kinds_are)) c.index.ensures

@@ -13,4 +13,4 @@ returns-clause-count c =
     ∙ ap (λ (v : SkeletonMap). length v.addresses) c.self.view_is
 
 pub returns-clause-within : goal.returns-clause-within
-returns-clause-within c = subst LeadsWithin (ap (λ (v : SkeletonMap). v.leads) c.self.view_is) c.self.invariant.leads_within
+returns-clause-within c = subst LeadsWithin (ap (λ (v : SkeletonMap). v.leads) c.self.view_is) c.self.invariant.0.leads_within
