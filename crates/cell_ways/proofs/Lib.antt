@@ -5,4 +5,5 @@ pub mod Lawful
 pub mod Least
 pub mod Noting
 pub mod Rounding
+pub mod Sweeping
 pub mod Walking

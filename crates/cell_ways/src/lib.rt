@@ -5,9 +5,11 @@
 //! cell with the least number among those of one depth less that lead to it (`specs/Depths.antt`).
 //! [`depth_is_least`] and [`a_way_leads`] say so of cells and lists of cells (`specs/Laws.antt`).
 //!
-//! [`Ways::of`] finds the depths of all cells of a [`CellGraph`](cell_graphs::CellGraph) from the roots on, one
-//! depth after the other, and then goes once more over all cells, in the order of their numbers, and notes for each cell the
-//! first from which the way can come. So its time is linear in the places of the cells.
+//! [`Ways::of`] first goes over all cells in the order of their numbers, upwards and downwards in turn, and notes in how many
+//! steps each is known to be reached: one more than a cell that leads to it. Where this changes nothing all depths are found,
+//! after two or three turns if nearly all cells lead to later ones, or to earlier ones. If it isn't soon, the depths are found one
+//! after the other from the roots on. Then it goes once more over all cells, and notes for each the first from which its
+//! way can come. So its time is linear in the places of the cells.
 //!
 //! ```
 //! let ways = Ways::of(alloc, &heap, &[3, 0])?;
@@ -18,9 +20,11 @@
 #![tactic(auto)]
 
 mod befores;
+mod depths;
 mod laws;
 mod numbers;
 mod search;
+mod sweeps;
 mod ways;
 
 pub use laws::{a_way_leads, depth_is_least};

@@ -162,8 +162,8 @@ fn go_deeper<G: CellGraph>(
     Ok(())
 }
 
-/// The depths of all cells below these roots.
-pub(crate) fn find_depths<G: CellGraph>(
+/// The depths of all cells below these roots, found one depth after the other.
+pub(crate) fn search_depths<G: CellGraph>(
     alloc: Global,
     graph: &G,
     roots: &[u32],

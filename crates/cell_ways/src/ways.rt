@@ -6,8 +6,8 @@ ghost use Rattle.cell_ways.specs.Depths.{depth_of, way_by, way_to};
 ghost use Rattle.cell_ways.specs.Ways.{at_cell, AreWays};
 
 use crate::befores::find_befores;
+use crate::depths::find_depths;
 use crate::numbers::{NOWHERE, number_at};
-use crate::search::find_depths;
 use cell_graphs::CellGraph;
 use std::alloc::{AllocError, Global};
 use std::marker::Model;

@@ -1,7 +1,7 @@
 use Rattle.std.proofs.Common.{◌+◌, refl, ◌∙◌, arith}
 use Rattle.cell_graphs.specs.Frontiers.{is_on}
 use Rattle.cell_ways.proofs.Deepening.{searched-all, searched-roots, searched-then}
-use Rattle.cell_ways.proofs.search.find_depths.Goals as goal
+use Rattle.cell_ways.proofs.search.search_depths.Goals as goal
 
 pub loop-depth-init : goal.loop-depth-init
 loop-depth-init g c =
