@@ -408,15 +408,12 @@ static void one_text(FILE *f, long count) {
     fputc('\n', f);
 }
 
+// An ordinary one has as many references to as many tuples, and an atom of four bytes.
 static void texts(FILE *f, long count) {
-    if (plain) {
-        ordinary(f, count, 60 * count);
-        return;
-    }
     mailbox(f, count, put_own);
     put_heap(f);
     fputs("10:t1:", f);
-    put_atom(f, 16 * count);
+    put_atom(f, plain ? 4 : 16 * count);
     fputc('\n', f);
     for (long i = 0; i < count; i++) fprintf(f, "%lX:t8:H10,H10,H10,H10,H10,H10,H10,H10\n", 16 * (i + 2));
 }
