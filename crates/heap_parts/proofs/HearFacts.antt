@@ -1,5 +1,5 @@
 -- What is heard of lines has the addresses and offsets of the heap lines.
-use Rattle.std.proofs.Common.{◌≡◌, ◌⊎◌, ℕ, suc, ◌+◌, ◌-◌, ◌<◌, ◌≤◌, ◌==◌, nat_eq, Bool, true, false, not, ◌||◌, cond, if◌then◌else◌, List, [], ◌∷◌, ◌++◌, length, take, drop, map, min, take-take, Option, None, Some, refl, sym, ◌∙◌, ap, ap₂, append_assoc, append-nil, take-append-drop, arith}
+use Rattle.std.proofs.Common.{◌≡◌, ◌⊎◌, ℕ, suc, ◌+◌, ◌-◌, ◌<◌, ◌≤◌, ◌==◌, nat_eq, Bool, true, false, not, ◌||◌, cond, if◌then◌else◌, List, [], ◌∷◌, ◌++◌, length, take, drop, map, min, take-take, Option, None, Some, IsSome, is_some, refl, sym, ◌∙◌, ap, ap₂, append_assoc, append-nil, take-append-drop, arith}
 use Rattle.std.specs.Prelude.{find, Result, Ok, Err, IfErr}
 use Rattle.std.specs.declared.alloc.AllocError.{AllocError}
 use Rattle.std.specs.List.{filter_map, cons_option, ends_with, position_or_len}
@@ -21,8 +21,8 @@ use Rattle.dump_sections.specs.Places.{place_by}
 use Rattle.heap_cells.specs.Places.{placed_line, placed_lines, place_with}
 use Rattle.term_forms.specs.Words.{led_of}
 use Rattle.heap_parts.specs.declared.address_sink.AddressSink.{AddressSink}
-use Rattle.heap_parts.specs.Inner.Hearing.{heard_place, heard_places, TakesPlaces}
-use Rattle.heap_parts.specs.Tables.{IsTableOf}
+use Rattle.heap_parts.specs.Inner.Hearing.{heard_binaries, heard_binary, heard_place, heard_places, may_begin_binary, TakesPlaces}
+use Rattle.heap_parts.specs.Tables.{binary_lines, IsTableOf}
 
 -- ---- the number that leads a text
 
@@ -120,8 +120,15 @@ module _ (found : (text rest : List ℕ) (n : ℕ) → led_of (take 17 text) ≡
   pub all-heard : (old new : AddressSink) (base : ℕ) (body : List ℕ) (lines : List CutLine)
       → Hears TakesPlaces old new lines → old.lines.items ≡ [] → lines ≡ cut_lines 17 base body → new.lines.items ≡ placed_lines base body
   all-heard old new base body lines heard empty are =
-      (heard.later old [] (record { taken = sym (append-nil old.lines.items) })).taken
+      (heard.later old [] (record { taken = sym (append-nil old.lines.items); binaries = sym (append-nil old.binaries.items) })).taken
       ∙ ap (λ l. l ++ heard_places lines) empty ∙ ap heard_places are ∙ body-heard base body
+
+-- a sink that had nothing has all that may be heap binaries
+pub binaries-taken : (old new : AddressSink) (base : ℕ) (body : List ℕ) (lines : List CutLine)
+    → Hears TakesPlaces old new lines → old.binaries.items ≡ [] → lines ≡ cut_lines 17 base body → new.binaries.items ≡ heard_binaries (cut_lines 17 base body)
+binaries-taken old new base body lines heard empty are =
+    (heard.later old [] (record { taken = sym (append-nil old.lines.items); binaries = sym (append-nil old.binaries.items) })).binaries
+    ∙ ap (λ l. l ++ heard_binaries lines) empty ∙ ap heard_binaries are
 
 -- ---- some lines more
 
@@ -131,28 +138,43 @@ one-heard at front address rest size is = ap (λ o. cons_option (option_map {U =
 pub none-heard : (at : ℕ) (front : List ℕ) (size : ℕ) → led_of front ≡ None → heard_places (one_line at front size) ≡ []
 none-heard at front size is = ap (λ o. cons_option (option_map {U = ℕ × ℕ} (λ (led : ℕ × List ℕ). (led.0, at)) o) []) is
 
--- the first line of a run, and the others behind it
-pub first-heard : (old new : List (ℕ × ℕ)) (at : ℕ) (run : List ℕ) (n m : ℕ) → n ≤ length run → raw_lines run ≡ take n run ∷ raw_lines (drop n run) → m ≡ min n 17
-    → new ≡ old ++ heard_places (one_line at (take m run) n) → new ++ heard_places (cut_lines 17 (at + n) (drop n run)) ≡ old ++ heard_places (cut_lines 17 at run)
-first-heard old new at run n m within first few heard =
+pub one-binary : (at : ℕ) (front : List ℕ) (address : ℕ) (rest : List ℕ) (size : ℕ) → led_of front ≡ Some (address, rest)
+    → heard_binaries (one_line at front size) ≡ (if may_begin_binary rest then (address, at) ∷ [] else [])
+one-binary at front address rest size is =
+    let place : ℕ × ℕ = (address, at) in
+    ap (λ o. cons_option (option_and_then {U = ℕ × ℕ} (λ (led : ℕ × List ℕ). if may_begin_binary led.1 then Some (led.0, at) else None) o) []) is
+    ∙ elim (may_begin_binary rest) as (λ b. cons_option (if b then Some place else None) [] ≡ (if b then place ∷ [] else [])) [ true ↦ refl | false ↦ refl ]
+
+pub none-binary : (at : ℕ) (front : List ℕ) (size : ℕ) → led_of front ≡ None → heard_binaries (one_line at front size) ≡ []
+none-binary at front size is =
+    ap (λ o. cons_option (option_and_then {U = ℕ × ℕ} (λ (led : ℕ × List ℕ). if may_begin_binary led.1 then Some (led.0, at) else None) o) []) is
+
+-- what is heard of the first line of a run, and of the others behind it
+pub first-heard : (heard : CutLine → Option (ℕ × ℕ)) (old new : List (ℕ × ℕ)) (at : ℕ) (run : List ℕ) (n m : ℕ) → n ≤ length run → raw_lines run ≡ take n run ∷ raw_lines (drop n run) → m ≡ min n 17
+    → new ≡ old ++ filter_map heard (one_line at (take m run) n) → new ++ filter_map heard (cut_lines 17 (at + n) (drop n run)) ≡ old ++ filter_map heard (cut_lines 17 at run)
+first-heard heard old new at run n m within first few is =
     let line = take n run in
     let size : length line ≡ n = length-take-le n run within in
     let count : m ≡ min 17 (length line) = omega (arith, few, size) in
     let front : take m run ≡ take 17 line = sym (take-take m n run (omega (arith, few))) ∙ ap (λ k. take k line) count ∙ take_min 17 line in
     let others = cut_lines 17 (at + n) (drop n run) in
-    ap (λ l. l ++ heard_places others) heard ∙ append_assoc old (heard_places (one_line at (take m run) n)) (heard_places others)
-    ∙ ap (λ l. old ++ l) (sym (filter_map-append heard_place (one_line at (take m run) n) others)
-    ∙ ap (λ f. heard_places (one_line at f n ++ others)) front
-    ∙ ap (λ k. heard_places (one_line at (take 17 line) k ++ cut_lines 17 (at + k) (drop n run))) (sym size)
-    ∙ ap (λ l. heard_places (map (cut 17) (lines_from at l))) (sym first))
+    ap (λ l. l ++ filter_map heard others) is ∙ append_assoc old (filter_map heard (one_line at (take m run) n)) (filter_map heard others)
+    ∙ ap (λ l. old ++ l) (sym (filter_map-append heard (one_line at (take m run) n) others)
+    ∙ ap (λ f. filter_map heard (one_line at f n ++ others)) front
+    ∙ ap (λ k. filter_map heard (one_line at (take 17 line) k ++ cut_lines 17 (at + k) (drop n run))) (sym size)
+    ∙ ap (λ l. filter_map heard (map (cut 17) (lines_from at l))) (sym first))
 
-pub hears-lines : (old new : AddressSink) (lines : List CutLine) → new.lines.items ≡ old.lines.items ++ heard_places lines → Hears TakesPlaces old new lines
+pub hears-lines : (old new : AddressSink) (lines : List CutLine) → TakesPlaces old new lines → Hears TakesPlaces old new lines
 hears-lines old new lines is = record {
   later = λ first earlier before. record {
     taken =
-        is ∙ ap (λ l. l ++ heard_places lines) before.taken
+        is.taken ∙ ap (λ l. l ++ heard_places lines) before.taken
         ∙ append_assoc first.lines.items (heard_places earlier) (heard_places lines)
         ∙ ap (λ l. first.lines.items ++ l) (sym (filter_map-append heard_place earlier lines));
+    binaries =
+        is.binaries ∙ ap (λ l. l ++ heard_binaries lines) before.binaries
+        ∙ append_assoc first.binaries.items (heard_binaries earlier) (heard_binaries lines)
+        ∙ ap (λ l. first.binaries.items ++ l) (sym (filter_map-append heard_binary earlier lines));
   };
 }
 
@@ -179,10 +201,13 @@ found-same address (place ∷ places) =
       | false ↦ found-same address places
     ]
 
-pub table-is : (base : ℕ) (body : List ℕ) (lines places : List (ℕ × ℕ)) (count : ℕ) → lines ≡ placed_lines base body
-    → ((address : ℕ) → place_by nat_cmp address places ≡ place_by nat_cmp address lines) → count ≡ length lines
-    → IsTableOf base body (record { places = places; count = count })
-table-is base body lines places count is sorted counted = record {
+pub table-is : (base : ℕ) (body : List ℕ) (lines places heard binaries : List (ℕ × ℕ)) (count : ℕ) → lines ≡ placed_lines base body
+    → ((address : ℕ) → place_by nat_cmp address places ≡ place_by nat_cmp address lines)
+    → ((address : ℕ) → IsSome (place_with (binary_lines base body) address) → IsSome (place_with heard address))
+    → ((address : ℕ) → place_by nat_cmp address binaries ≡ place_by nat_cmp address heard) → count ≡ length lines
+    → IsTableOf base body (record { places = places; binaries = binaries; count = count })
+table-is base body lines places heard binaries count is sorted tells sorted_too counted = record {
   places = λ address. sorted address ∙ ap (place_by nat_cmp address) is ∙ found-same address (placed_lines base body);
+  binaries = λ address some. ap is_some (sorted_too address ∙ found-same address heard) ∙ tells address some;
   count = counted ∙ ap length is;
 }

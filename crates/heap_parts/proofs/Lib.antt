@@ -1,3 +1,4 @@
+mod BinaryFacts
 pub mod CountFacts
 pub mod FirstFacts
 pub mod GrowFacts

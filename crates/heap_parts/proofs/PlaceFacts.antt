@@ -42,7 +42,7 @@ each-reads read base at body (raw ∷ raws) reads is = (
     inside (inr past) = let no : [] ≡ raw ∷ raws = ap raw_lines (sym (drop_all at body past)) ∙ is in absurd (cc)
 
 -- the cells of raw lines, the first of which is at this place
-abbrev cells_from : Enc → ℕ → List (List ℕ) → List Cell
+abbrev pub cells_from : Enc → ℕ → List (List ℕ) → List Cell
 cells_from enc at raws = filter_map (cell_of enc) (map text_line (lines_from at raws))
 
 -- the addresses and offsets of these lines

@@ -1,5 +1,5 @@
 -- The heap lines of two bodies: which addresses they have, and which line is read for one.
-use Rattle.std.proofs.Common.{◌≡◌, ℕ, ◌+◌, ◌-◌, ◌*◌, ◌<◌, ◌≤◌, ◌||◌, List, ◌++◌, take, drop, min, Option, None, Some, is_some, refl, sym, ◌∙◌, ap, ap₂, subst, drop-drop, length, length-append, length-take, arith}
+use Rattle.std.proofs.Common.{◌≡◌, ℕ, ◌+◌, ◌-◌, ◌*◌, ◌<◌, ◌≤◌, ◌||◌, Bool, true, false, List, [], ◌++◌, take, drop, min, Option, None, Some, is_some, refl, sym, ◌∙◌, ap, ap₂, subst, drop-drop, length, length-append, length-take, arith}
 use Rattle.std.proofs.lemmas.List.{drop-take}
 use Rattle.std.specs.List.{between}
 use Rattle.std.specs.Option.{option_and_then, option_or, option_to_list}
@@ -15,17 +15,21 @@ use Rattle.dump_sections.specs.Sections.{Section}
 use Rattle.dump_sections.specs.Places.{place_by}
 use Rattle.binary_payloads.specs.declared.enc.Enc.{Enc}
 use Rattle.term_forms.specs.Words.{led_of}
+use Rattle.term_unfold.specs.Parts.{known_in}
+use Rattle.term_unfold.specs.declared.gaps.Asked.TheVariants.{BinaryAt, CellAt}
 use Rattle.body_lines.specs.Lines.{AreWhole}
-use Rattle.heap_cells.specs.Cells.{Cell, line_cells}
+use Rattle.heap_cells.specs.Cells.{Cell, first_cells, line_cells}
 use Rattle.heap_cells.specs.Loading.{enc_of, heap_section, literals_section}
 use Rattle.heap_parts.specs.Inner.Growing.{first_with, IsPushed}
 use Rattle.heap_parts.specs.Parts.{IsLawful}
 use Rattle.heap_parts.specs.Places.{first_raw, text_cell, ended_text}
+use Rattle.heap_parts.proofs.BinaryFacts.{FormIsRead, binary-first, binary-placed, spells_binary}
 use Rattle.heap_parts.proofs.FirstFacts.{has-lines}
+use Rattle.heap_parts.proofs.GrowFacts.{TellsMore}
 use Rattle.heap_parts.proofs.LineFacts.{cells-pushed, first-free}
 use Rattle.heap_parts.proofs.PlaceFacts.{ReadsTexts, first-append, first-placed, placed-count, placed-known}
 use Rattle.heap_parts.specs.Inner.Bodies.{span_in, span_of, AreBodyLines}
-use Rattle.heap_parts.specs.Wholes.{two_cells, cells_in, is_known, text_size, bytes_of, IsTableIn, ServesLines, HasLines}
+use Rattle.heap_parts.specs.Wholes.{two_cells, cells_in, is_known, known_of, text_size, bytes_of, IsTableIn, ServesLines, HasLines}
 use Rattle.heap_parts.specs.declared.heap_lines.BodyLines.{BodyLines}
 use Rattle.heap_parts.specs.declared.heap_lines.HeapLines.{HeapLines}
 
@@ -79,6 +83,27 @@ lines-lawful lines now all has = record {
       ∙ ap (λ cells. is_some (first_with cells a)) (sym has.cells)
       ∙ sym (has-lines all a);
 }
+
+-- of two cells, the first that is there is no heap binary if neither is told
+told-or : (one other : Option Cell) (b c : Bool) → (spells_binary one ≡ true → b ≡ true) → (spells_binary other ≡ true → c ≡ true)
+    → spells_binary (option_or one other) ≡ true → (b || c) ≡ true
+told-or None other b c first second some = ap (λ d. b || d) (second some) ∙ or-true b
+  where
+    or-true : (b : Bool) → (b || true) ≡ true
+    or-true true = refl
+    or-true false = refl
+told-or (Some cell) other b c first second some = ap (λ d. d || c) (first some)
+
+-- the address of each heap binary is told, and that of each cell
+pub lines-tell : (lines : HeapLines) (now : Now) (all : List Cell) → HasLines lines now all → FormIsRead lines.enc → TellsMore (known_in (first_cells [] all)) (known_of lines)
+lines-tell lines now all has read (CellAt a) told = (lines-lawful lines now all has).same a ∙ told
+lines-tell lines now all has read (BinaryAt a) told =
+    let body = λ (l : BodyLines). line_cells lines.enc (bytes_of l has.dump) in
+    told-or (first_with (body lines.heap) a) (first_with (body lines.literals) a)
+    (is_some (place_by nat_cmp a lines.heap.table.binaries)) (is_some (place_by nat_cmp a lines.literals.table.binaries))
+    (λ some. has.heap.binaries a (binary-placed lines.enc read lines.heap.from a (bytes_of lines.heap has.dump) some))
+    (λ some. has.literals.binaries a (binary-placed lines.enc read lines.literals.from a (bytes_of lines.literals has.dump) some))
+    (ap spells_binary (sym (first-append (body lines.heap) (body lines.literals) a)) ∙ ap (λ cells. spells_binary (first_with cells a)) (sym has.cells) ∙ sym (binary-first all a) ∙ told)
 
 -- nothing is no line
 no-line : (enc : Enc) (dump : List ℕ) (end : ℕ) → text_cell enc (text_of (first_raw (between end end dump))) ≡ None

@@ -7,6 +7,7 @@ use Rattle.binary_payloads.specs.declared.enc.Enc.{Enc}
 use Rattle.dump_sections.specs.Places.{place_by}
 use Rattle.heap_cells.specs.Cells.{Cell, line_cells}
 use Rattle.heap_cells.specs.DumpHeaps.{payloads_of, heap_body, literals_body}
+use Rattle.term_unfold.specs.Parts.{Known}
 use Rattle.heap_parts.specs.Tables.{IsTableOf}
 use Rattle.heap_parts.specs.declared.heap_lines.BodyLines.{BodyLines}
 use Rattle.heap_parts.specs.declared.heap_lines.HeapLines.{HeapLines}
@@ -24,6 +25,15 @@ cells_in pid bytes = two_cells (payloads_of bytes) (heap_body pid bytes) (litera
 abbrev pub is_known : HeapLines → ℕ → Bool
 is_known lines address =
     is_some (place_by nat_cmp address lines.heap.table.places) || is_some (place_by nat_cmp address lines.literals.table.places)
+
+-- whether one of the tables has the address among those of lines that may be heap binaries
+abbrev pub may_be_binary : HeapLines → ℕ → Bool
+may_be_binary lines address =
+    is_some (place_by nat_cmp address lines.heap.table.binaries) || is_some (place_by nat_cmp address lines.literals.table.binaries)
+
+-- the addresses of all lines, and those of lines that may be heap binaries
+abbrev pub known_of : HeapLines → Known
+known_of lines = record { cells = is_known lines; binaries = may_be_binary lines }
 
 -- how many bytes the texts of all heap lines have, each with two for an end of line, at most
 abbrev pub text_size : HeapLines → ℕ

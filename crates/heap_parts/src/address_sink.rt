@@ -1,7 +1,7 @@
 // Hearing where the heap lines of a body begin.
-ghost use Rattle.std.specs.Prelude.{◌≡◌, ℕ, ◌+◌, ◌++◌, ◌<◌, ◌≤◌, length, drop, OnOk, IfOk};
+ghost use Rattle.std.specs.Prelude.{◌≡◌, ℕ, [], ◌∷◌, ◌+◌, ◌++◌, ◌<◌, ◌≤◌, length, drop, if◌then◌else◌, OnOk, IfOk};
 ghost use Rattle.body_lines.specs.Lines.{cut_lines, one_line};
-ghost use Rattle.heap_parts.specs.Inner.Hearing.{heard_places, TakesPlaces};
+ghost use Rattle.heap_parts.specs.Inner.Hearing.{heard_binaries, heard_places, may_begin_binary, TakesPlaces};
 
 use body_lines::LineSink;
 use dump_io::line_len;
@@ -11,20 +11,52 @@ use term_forms::heap_line;
 // The number that leads a line and its colon are among its first 17 bytes.
 const KEPT: u16 = 17;
 
-/// Takes the address of each heap line, with the offset at which the line begins.
+/// Takes the address of each heap line, with the offset at which the
+/// line begins, and those of the lines that may be heap binaries once more.
 #[derive(Drop)]
 pub(crate) struct AddressSink {
     pub lines: Vec<(u64, usize)>,
+    pub binaries: Vec<(u64, usize)>,
+}
+
+// Whether a form whose text begins with these bytes may be a heap binary. Of a line with the longest of addresses none is heard.
+fn may_begin_binary(spelled: &[u8]) -> bool
+    ensures { result ≡ may_begin_binary spelled.now }
+{
+    match spelled {
+        [] => true,
+        [first, ..] => *first == b'Y',
+    }
+}
+
+// Appends an address and an offset, if this is so.
+fn push_if(
+    is: bool,
+    address: u64,
+    at: usize,
+    places: &mut Vec<(u64, usize)>,
+) -> Result<(), AllocError>
+    ensures { OnOk result (places.new.items ≡ places.old.items ++ (if is then (address, at) ∷ [] else [])) }
+{
+    if is {
+        places.push((address, at))?;
+    }
+    Ok(())
 }
 
 impl AddressSink {
     // Hears a line with these first bytes.
     fn line(&mut self, at: u64, front: &[u8]) -> Result<(), AllocError>
-        ensures { OnOk result ((size : ℕ) → self.new.lines.items
-            ≡ self.old.lines.items ++ heard_places (one_line at front.now size)) }
+        ensures { OnOk result ((size : ℕ) → TakesPlaces self.old self.new (one_line at front.now size)) }
     {
-        if let Some((address, _)) = heap_line(front) {
+        if let Some((address, spelled)) = heap_line(front) {
             self.lines.push((address, at as usize))?;
+            return push_if(
+                may_begin_binary(spelled),
+                address,
+                at as usize,
+                &mut self.binaries,
+            );
         }
         Ok(())
     }
@@ -36,6 +68,9 @@ impl AddressSink {
         ensures heard { IfOk result (λ n.
             self.new.lines.items ++ heard_places (cut_lines 17 (at + n) (drop n run.now))
             ≡ self.old.lines.items ++ heard_places (cut_lines 17 at run.now)) }
+        ensures binaries { IfOk result (λ n.
+            self.new.binaries.items ++ heard_binaries (cut_lines 17 (at + n) (drop n run.now))
+            ≡ self.old.binaries.items ++ heard_binaries (cut_lines 17 at run.now)) }
     {
         let size = line_len(run);
         let front = size.min(KEPT as usize);

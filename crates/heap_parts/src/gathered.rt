@@ -259,3 +259,31 @@ pub(crate) fn follow<D: Dumps>(
     set_lead(&mut g.leads, place, found);
     Ok(found)
 }
+
+// Whether the lead at a place leads to a line that isn't gathered yet and may be a heap binary.
+fn may_lead_to_binary(from: &Source<'_>, place: usize, g: &Gathered) -> bool {
+    match g.leads.get(place) {
+        Some(Lead::Address(addr)) => from.lines.has_binary(*addr),
+        _ => false,
+    }
+}
+
+/// Follows the lead of a sub binary, at a place, if it may lead to a heap binary: no other cell matters to a sub binary,
+/// whatever the length of its line.
+pub(crate) fn follow_binary<D: Dumps>(
+    from: &Source<'_>,
+    dumps: &mut D,
+    place: usize,
+    g: &mut Gathered,
+) -> Result<(), ReadFault>
+    requires { MayGather from.now (D.state dumps.old).now g.old.lines.items }
+    ensures reads { ReadsLines (D.state dumps.old) (D.state dumps.new) from.now.bytes g.old.lines.items }
+    ensures fault { IfErr result (IsReadCauseOf (D.state dumps.old) (D.state dumps.new)) }
+    ensures grows { OnOk result (Grows from.now (D.state dumps.old) (D.state dumps.new)
+        g.old.lines.items g.new.lines.items) }
+{
+    if may_lead_to_binary(from, place, g) {
+        follow(from, dumps, place, g)?;
+    }
+    Ok(())
+}

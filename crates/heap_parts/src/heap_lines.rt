@@ -6,7 +6,7 @@ ghost use Rattle.dump_sections.specs.Bodies.{body_size, section_in, IsPlaceIn};
 ghost use Rattle.dump_sections.specs.Index.{IsBuiltOver, sections_in};
 ghost use Rattle.heap_cells.specs.Cells.{Cell};
 ghost use Rattle.heap_cells.specs.Loading.{enc_of, heap_section, literals_section};
-ghost use Rattle.heap_parts.specs.Wholes.{cells_in, is_known, text_size, HasLines, ServesLines};
+ghost use Rattle.heap_parts.specs.Wholes.{cells_in, is_known, known_of, text_size, HasLines, ServesLines};
 ghost use Rattle.heap_parts.specs.Inner.Bodies.{AreBodyLines, span_of};
 ghost use Rattle.heap_parts.specs.Inner.Growing.{IsPushed, MayGrow, ReadsLines};
 ghost use Rattle.heap_parts.specs.Parts.{IsLawful};
@@ -169,9 +169,13 @@ impl HeapLines {
 }
 
 impl Addresses for HeapLines {
-    ghost known = { is_known };
+    ghost known = { known_of };
 
     fn has(&self, addr: u64) -> bool {
         self.heap.table.find(addr).is_some() || self.literals.table.find(addr).is_some()
+    }
+
+    fn has_binary(&self, addr: u64) -> bool {
+        self.heap.table.may_be_binary(addr) || self.literals.table.may_be_binary(addr)
     }
 }

@@ -7,7 +7,7 @@ ghost use Rattle.term_forms.specs.Seen.{element};
 ghost use Rattle.heap_cells.specs.Loading.{IsHeapAnswerFor};
 ghost use Rattle.heap_parts.specs.Inner.Growing.{FindsNoGap, Grows, MayGather, ReadsLines};
 ghost use Rattle.heap_parts.specs.Parts.{IsEnoughFor};
-ghost use Rattle.heap_parts.specs.Wholes.{is_known, text_size, HasLines, ServesLines};
+ghost use Rattle.heap_parts.specs.Wholes.{known_of, text_size, HasLines, ServesLines};
 
 use crate::gathered::{Gathered, Source};
 use crate::heap_lines::HeapLines;
@@ -15,8 +15,8 @@ use crate::search::{Search, gather_root};
 use dump_io::{Dumps, Limits, ReadFault};
 use heap_cells::Heap;
 use std::alloc::{AllocError, Global};
-use term_forms::Enc;
 use term_forms::shapes::Elem;
+use term_forms::{Enc, form_is_read};
 use term_unfold::{PartWalker, part_is_enough};
 
 // The heap with these lines. One that is too dense counts as want of memory.
@@ -33,7 +33,7 @@ fn heap_of(alloc: Global, lines: Vec<u8>, enc: Enc, limits: &Limits) -> Result<H
     }
 }
 
-// Whether a root asks for a cell that the heap lacks and the whole heap has.
+// Whether a root asks for a cell that the heap lacks and the whole heap has, or for one that may be a heap binary there.
 fn has_gap(
     alloc: Global,
     heap: &Heap,
@@ -43,7 +43,7 @@ fn has_gap(
 ) -> Result<bool, AllocError>
     requires { 0 < budget }
     ensures { IfOk result (λ gap. gap ≡ false
-        → FindsNoGap (is_known whole.now) heap.now.cells roots.now budget) }
+        → FindsNoGap (known_of whole.now) heap.now.cells roots.now budget) }
 {
     let mut walker = PartWalker::new(alloc, heap)?;
     for root in roots {
@@ -80,7 +80,8 @@ fn gather_roots<D: Dumps>(
 /// heap with the previews of that. The part has no more references to binaries than the whole heap.
 ///
 /// A search from each root gathers the lines that its nodes need, each of which is read and parsed once, and a walk over
-/// the heap of these lines then makes sure that no node asks for a cell that only the whole heap has. Returns `Memory` if the
+/// the heap of these lines then makes sure that no node asks for what only the whole heap has: a cell, or, of a sub binary,
+/// a heap binary; a cell of any other form to which a sub binary refers isn't read. Returns `Memory` if the
 /// lines are more than the limits, if the walk finds such a node, as it may if the file is changed meanwhile, and from any
 /// allocation, and `Read` only if the device's count of faults rose. Whatever it returns, it reads at most 16 times the
 /// limit on a section's body or what all lines of the whole heap take, if that is less, and 64 bytes.
@@ -103,6 +104,7 @@ pub fn load_part<D: Dumps>(
     ensures enc { IfOk result (λ heap. heap.enc ≡ whole.now.enc) }
 {
     part_is_enough();
+    form_is_read(whole.enc);
     let from = Source {
         lines: whole,
         bytes: whole.size_within(limits.section()) as usize,

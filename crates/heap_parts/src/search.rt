@@ -3,7 +3,7 @@ ghost use Rattle.std.specs.Prelude.{OnOk, IfErr};
 ghost use Rattle.dump_io.specs.Faults.{IsReadCauseOf};
 ghost use Rattle.heap_parts.specs.Inner.Growing.{Grows, MayGather, ReadsLines};
 
-use crate::gathered::{Gathered, Gist, Source, follow, line_of};
+use crate::gathered::{Gathered, Gist, Source, follow, follow_binary, line_of};
 use dump_io::{Dumps, ReadFault};
 use heap_cells::Kind;
 use std::alloc::{AllocError, Global};
@@ -158,7 +158,7 @@ fn has_keys<D: Dumps>(
     Ok(are_keys(found.kind, found.elements, gist.elements - 1))
 }
 
-// Gathers the line of the binary of which a cell is a part, if it is one.
+// Gathers the line of the heap binary of which a cell is a part, if it is a sub binary.
 fn gather_binary<D: Dumps>(
     from: &Source<'_>,
     dumps: &mut D,
@@ -178,8 +178,7 @@ fn gather_binary<D: Dumps>(
     let Some(lead) = g.lead_of(line, 0) else {
         return Ok(());
     };
-    follow(from, dumps, lead, g)?;
-    Ok(())
+    follow_binary(from, dumps, lead, g)
 }
 
 // Enters a flat map that the search isn't in, if its keys are available.

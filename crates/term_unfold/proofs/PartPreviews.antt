@@ -1,7 +1,7 @@
 -- The answers of a part: what its leaves show of binaries is what the whole heap's leaves show.
 use Rattle.std.proofs.Common.{◌≡◌, ◌⊎◌, inl, inr, ℕ, zero, suc, ◌<◌, ◌≤◌, ◌==◌, Bool, true, false, if◌then◌else◌, List, [], ◌∷◌, ◌++◌, length, Option, None, Some, IsSome, is_some, refl, sym, ◌∙◌, ap, ap₂, subst, arith}
 use Rattle.std.specs.Option.{option_map, option_and_then, option_or, option_to_list}
-use Rattle.std.proofs.lemmas.Bool.{cases_lt, eq-eqb, ne_eqb}
+use Rattle.std.proofs.lemmas.Bool.{cases_lt, eq-eqb, false≢true, ne_eqb}
 use Rattle.std.proofs.lemmas.Option.{none-some, same_Some, slice_get_past}
 use Rattle.dump_io.specs.Laws.Options.{or-none}
 use Rattle.dump_sections.specs.Index.{Contents}
@@ -15,7 +15,7 @@ use Rattle.heap_cells.specs.HeapMap.{number_at, form_at}
 use Rattle.term_unfold.specs.Maps.{form_at_address}
 use Rattle.binary_refs.specs.Ranges.{in_dump}
 use Rattle.term_unfold.specs.Leaves.{leaf_text, form_text, preview_of}
-use Rattle.term_unfold.specs.Parts.{IsPartOfHeap, has_cell, gap_at, gap_of, answer_in}
+use Rattle.term_unfold.specs.Parts.{IsPartOfHeap, has_cell, known_in, gap_at, gap_of, answer_in}
 use Rattle.term_unfold.specs.Trees.{Value, Immediate, OfCell, Leaf}
 use Rattle.term_unfold.specs.Walks.{judged_text}
 use Rattle.term_unfold.proofs.Parts.{Knows, knows, some-form, IsLeafOf, same-verdict, same-show}
@@ -125,17 +125,28 @@ same-binary : (part whole : List Cell) (a : ℕ) → form_at_address whole a ≡
 same-binary part whole a same =
     binary-by part (number_at part a) ∙ ap (option_and_then (option_and_then own_binary)) (sym same) ∙ sym (binary-by whole (number_at whole a))
 
+-- where the part lacks a cell and no gap is found, the whole has no heap binary
+lacks-none : (here there : Bool) (binary : Option (ℕ × List ℕ)) (a : ℕ) → (if here then false else there) ≡ true → (if (if here then false else is_some binary) then Some a else None) ≡ None → binary ≡ None
+lacks-none true there binary a lack clear = absurd (false≢true lack)
+lacks-none false there None a lack clear = refl
+lacks-none false there (Some binary) a lack clear = absurd (none-some a (sym clear))
+
+no-binary : (part : List Cell) (a : ℕ) → form_at_address part a ≡ None → heap_binary part a ≡ None
+no-binary part a lacks = binary-by part (number_at part a) ∙ ap (option_and_then (option_and_then own_binary)) lacks
+
 same-shown : (dump : List ℕ) (index : Contents) (enc : Enc) (part whole : List Cell) (a : ℕ) (form : HeapForm) → IsPartOfHeap part whole
-    → gap_at (has_cell whole) part (Leaf (OfCell a form)) ≡ None → shown_by dump index enc part form ≡ shown_by dump index enc whole form
+    → gap_at (known_in whole) part (Leaf (OfCell a form)) ≡ None → shown_by dump index enc part form ≡ shown_by dump index enc whole form
 same-shown dump index enc part whole a (SubBin address offset size) is clear = by (knows part whole address is)
   where
     by : Knows part whole address → shown_by dump index enc part (SubBin address offset size) ≡ shown_by dump index enc whole (SubBin address offset size)
     by (inl same) = ap (λ binary. in_part binary dump index enc address offset size) (same-binary part whole address same)
-    by (inr lack) = absurd (none-some address (sym clear ∙ ap (λ b. if b then Some address else None) lack.1))
+    by (inr lack) =
+        ap (λ binary. in_part binary dump index enc address offset size)
+        (no-binary part address lack.0 ∙ sym (lacks-none (has_cell part address) (has_cell whole address) (heap_binary whole address) address lack.1 clear))
 same-shown dump index enc part whole a form is clear = refl
 
 leaves-agree : (dump : List ℕ) (index : Contents) (enc : Enc) (part whole : List Cell) → IsPartOfHeap part whole
-    → (v : Value) → IsLeafOf part v → gap_at (has_cell whole) part (Leaf v) ≡ None → leaf_text enc part (previews_of dump index enc part) v ≡ leaf_text enc whole (previews_of dump index enc whole) v
+    → (v : Value) → IsLeafOf part v → gap_at (known_in whole) part (Leaf v) ≡ None → leaf_text enc part (previews_of dump index enc part) v ≡ leaf_text enc whole (previews_of dump index enc whole) v
 leaves-agree dump index enc part whole is (Immediate e) of clear = refl
 leaves-agree dump index enc part whole is (OfCell a form) of clear =
     let some : IsSome (number_at part a) = sym (some-form part (number_at part a)) ∙ ap is_some of in
@@ -146,7 +157,7 @@ leaves-agree dump index enc part whole is (OfCell a form) of clear =
 -- ---- the answer
 
 pub enough : (part whole : List Cell) → IsPartOfHeap part whole → (dump : List ℕ) (index : Contents) (enc : Enc) (root : Element) (n : ℕ) (marked : Bool)
-    → gap_of (has_cell whole) part root n ≡ None → answer_in dump index enc part root n marked ≡ answer_in dump index enc whole root n marked
+    → gap_of (known_in whole) part root n ≡ None → answer_in dump index enc part root n marked ≡ answer_in dump index enc whole root n marked
 enough part whole is dump index enc root n true clear =
     same-show part whole (leaf_text enc part (previews_of dump index enc part)) (leaf_text enc whole (previews_of dump index enc whole)) root n is
     (leaves-agree dump index enc part whole is) clear

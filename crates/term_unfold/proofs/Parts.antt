@@ -7,8 +7,9 @@ use Rattle.heap_cells.specs.Cells.{Cell}
 use Rattle.heap_cells.specs.HeapMap.{number_at, form_at}
 use Rattle.cell_records.specs.declared.cells.Why.TheVariants.{Missing, OnPath}
 use Rattle.term_unfold.specs.Maps.{Keys, no_keys, keys_at, bad_keys, cell_keys, element_keys, Member, pair_at, inner_at, bad_member, cell_member, member_of, form_at_address}
+use Rattle.term_unfold.specs.declared.gaps.Asked.TheVariants.{CellAt}
 use Rattle.term_unfold.specs.Laws.{IsPath}
-use Rattle.term_unfold.specs.Parts.{IsPartOfHeap, has_cell, is_lacking, gap_at, gap_of}
+use Rattle.term_unfold.specs.Parts.{IsPartOfHeap, has_cell, known_in, is_lacking, gap_at, gap_of}
 use Rattle.term_unfold.specs.Rules.{Child, Term, Item, Opening, leaf, bad, node, is_on, unless_on, keyed, cell_opening, item_opening, opening}
 use Rattle.term_unfold.specs.Text.{show}
 use Rattle.term_unfold.specs.Trees.{Value, Immediate, OfCell, Tree, verdict}
@@ -22,7 +23,7 @@ use Rattle.term_unfold.proofs.Suiting.{unfolded-suits}
 
 -- the part knows what the whole has at an address, or lacks it
 abbrev pub Knows : List Cell → List Cell → ℕ → Type 0
-Knows part whole a = (form_at_address whole a ≡ form_at_address part a) ⊎ ((form_at_address part a ≡ None) × (is_lacking (has_cell whole) part a ≡ true))
+Knows part whole a = (form_at_address whole a ≡ form_at_address part a) ⊎ ((form_at_address part a ≡ None) × (is_lacking (known_in whole) part (CellAt a) ≡ true))
 
 pub knows : (part whole : List Cell) (a : ℕ) → IsPartOfHeap part whole → Knows part whole a
 knows part whole a is = by (number_at part a) refl (number_at whole a) refl
@@ -49,7 +50,7 @@ path-whole part whole (a ∷ path) is h = (has-whole part whole a is h.0, h.1, p
 
 -- what a child opens over the whole is what it opens over the part, or that asks for a cell that the part lacks
 abbrev Follows : List Cell → List Cell → Opening → Opening → Type 0
-Follows part whole o p = (p ≡ o) ⊎ ((a : ℕ) × (o ≡ bad a Missing) × (is_lacking (has_cell whole) part a ≡ true))
+Follows part whole o p = (p ≡ o) ⊎ ((a : ℕ) × (o ≡ bad a Missing) × (is_lacking (known_in whole) part (CellAt a) ≡ true))
 
 off-follows : (part whole : List Cell) (path : List ℕ) (e : Element) (o p : Opening) → Follows part whole o p → Follows part whole (unless_on path e o) (unless_on path e p)
 off-follows part whole path (Ref a) o p h =
@@ -140,10 +141,10 @@ opening-leaf heap path child = tt
 -- ---- the whole's tree is the part's tree with its gaps filled
 
 abbrev FillsOver : List Cell → List Cell → Tree → Tree → Type 0
-FillsOver part whole = Fills (gap_at (has_cell whole) part) (IsLeafOf part)
+FillsOver part whole = Fills (gap_at (known_in whole) part) (IsLeafOf part)
 
 trees-fill : (part whole : List Cell) (f g : Child → Tree) (children : List Child) → ((child : Child) → FillsOver part whole (f child) (g child))
-    → FillAll (gap_at (has_cell whole) part) (IsLeafOf part) (trees f children) (trees g children)
+    → FillAll (gap_at (known_in whole) part) (IsLeafOf part) (trees f children) (trees g children)
 trees-fill part whole f g [] h = tt
 trees-fill part whole f g (child ∷ children) h = (h child, trees-fill part whole f g children h)
 
@@ -178,16 +179,16 @@ unfoldings-fill part whole root is =
 -- ---- the verdict and the text
 
 pub same-verdict : (part whole : List Cell) (text text' : Value → List ℕ) (root : Element) (n : ℕ) → IsPartOfHeap part whole
-    → AgreeOn (gap_at (has_cell whole) part) (IsLeafOf part) text text' → gap_of (has_cell whole) part root n ≡ None
+    → AgreeOn (gap_at (known_in whole) part) (IsLeafOf part) text text' → gap_of (known_in whole) part root n ≡ None
     → verdict (unfolding_of part root) n ≡ verdict (unfolding_of whole root) n
 same-verdict part whole text text' root n is same h =
     verdict-faces text (unfolding_of part root) n
-    ∙ ap bad_face (alike (gap_at (has_cell whole) part) (IsLeafOf part) text text' n (unfolding_of part root) (unfolding_of whole root) same (unfoldings-fill part whole root is) h)
+    ∙ ap bad_face (alike (gap_at (known_in whole) part) (IsLeafOf part) text text' n (unfolding_of part root) (unfolding_of whole root) same (unfoldings-fill part whole root is) h)
     ∙ sym (verdict-faces text' (unfolding_of whole root) n)
 
 pub same-show : (part whole : List Cell) (text text' : Value → List ℕ) (root : Element) (n : ℕ) → IsPartOfHeap part whole
-    → AgreeOn (gap_at (has_cell whole) part) (IsLeafOf part) text text' → gap_of (has_cell whole) part root n ≡ None
+    → AgreeOn (gap_at (known_in whole) part) (IsLeafOf part) text text' → gap_of (known_in whole) part root n ≡ None
     → show text (unfolding_of part root) n ≡ show text' (unfolding_of whole root) n
 same-show part whole text text' root n is same h =
     same_faces text text' (unfolding_of part root) (unfolding_of whole root) n (unfolded-suits part [] (Term root)) (unfolded-suits whole [] (Term root))
-    (alike (gap_at (has_cell whole) part) (IsLeafOf part) text text' n (unfolding_of part root) (unfolding_of whole root) same (unfoldings-fill part whole root is) h)
+    (alike (gap_at (known_in whole) part) (IsLeafOf part) text text' n (unfolding_of part root) (unfolding_of whole root) same (unfoldings-fill part whole root is) h)

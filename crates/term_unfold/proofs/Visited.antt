@@ -18,7 +18,7 @@ use Rattle.term_unfold.specs.Inner.Coming.{to_come, entered_by, verdict_on, seen
 use Rattle.term_unfold.specs.Inner.Entries.{path_of, stepped}
 use Rattle.term_unfold.specs.Inner.Children.{children_of}
 use Rattle.term_unfold.specs.Inner.Openings.{element_of, IsOpened}
-use Rattle.term_unfold.specs.Parts.{asked, if_lacking, gap_at, first_gap}
+use Rattle.term_unfold.specs.Parts.{Known, asked, if_lacking, gap_at, first_gap}
 use Rattle.term_unfold.specs.Rules.{Child, Opening, opening}
 use Rattle.term_unfold.specs.Trees.{Immediate, OfCell, Tree, Leaf, Bad, Branch, pre, pre_all, first_bad}
 use Rattle.term_unfold.specs.Unfolding.{trees, grown_tree, unfolded}
@@ -127,22 +127,22 @@ visited-next budget i heap es before after child old found clean lt next v =
 
 -- the same for gaps
 
-gap-visited : (has : ℕ → Bool) (n : ℕ) (heap : List Cell) (before after : List Entry) (child : Child) (found : Opened) → Visits heap before after child found → 0 < n
-    → option_or (gap_on has heap found) (first_gap (gap_at has heap) (take (n - 1) (to_come heap after)))
-    ≡ first_gap (gap_at has heap) (take n (pre (unfolded heap (path_of heap before) child) ++ to_come heap before))
-gap-visited has zero heap before after child found v some = absurd (omega (arith, some))
-gap-visited has (suc m) heap before after child found v some =
+gap-visited : (known : Known) (n : ℕ) (heap : List Cell) (before after : List Entry) (child : Child) (found : Opened) → Visits heap before after child found → 0 < n
+    → option_or (gap_on known heap found) (first_gap (gap_at known heap) (take (n - 1) (to_come heap after)))
+    ≡ first_gap (gap_at known heap) (take n (pre (unfolded heap (path_of heap before) child) ++ to_come heap before))
+gap-visited known zero heap before after child found v some = absurd (omega (arith, some))
+gap-visited known (suc m) heap before after child found v some =
     let less : suc m - 1 ≡ m = omega arith in
-    ap (λ k. option_or (gap_on has heap found) (first_gap (gap_at has heap) (take k (to_come heap after)))) less
-    ∙ ap (λ o. option_or (option_and_then (if_lacking has heap) o) (first_gap (gap_at has heap) (take m (to_come heap after)))) v.asks
-    ∙ ap (λ ts. first_gap (gap_at has heap) (take (suc m) ts)) (sym v.first)
+    ap (λ k. option_or (gap_on known heap found) (first_gap (gap_at known heap) (take k (to_come heap after)))) less
+    ∙ ap (λ o. option_or (option_and_then (if_lacking known heap) o) (first_gap (gap_at known heap) (take m (to_come heap after)))) v.asks
+    ∙ ap (λ ts. first_gap (gap_at known heap) (take (suc m) ts)) (sym v.first)
 
-pub gap-next : (has : ℕ → Bool) (budget i : ℕ) (heap : List Cell) (es before after : List Entry) (child : Child) (old : Option ℕ) (found : Opened) → old ≡ None → i < budget
+pub gap-next : (known : Known) (budget i : ℕ) (heap : List Cell) (es before after : List Entry) (child : Child) (old : Option ℕ) (found : Opened) → old ≡ None → i < budget
     → to_come heap es ≡ pre (unfolded heap (path_of heap before) child) ++ to_come heap before → Visits heap before after child found
-    → option_or (gap_on has heap found) (first_gap (gap_at has heap) (take (budget - (i + 1)) (to_come heap after))) ≡ option_or old (first_gap (gap_at has heap) (take (budget - i) (to_come heap es)))
-gap-next has budget i heap es before after child old found clear lt next v =
+    → option_or (gap_on known heap found) (first_gap (gap_at known heap) (take (budget - (i + 1)) (to_come heap after))) ≡ option_or old (first_gap (gap_at known heap) (take (budget - i) (to_come heap es)))
+gap-next known budget i heap es before after child old found clear lt next v =
     let less : budget - (i + 1) ≡ budget - i - 1 = omega (arith, lt) in
-    ap (λ k. option_or (gap_on has heap found) (first_gap (gap_at has heap) (take k (to_come heap after)))) less
-    ∙ gap-visited has (budget - i) heap before after child found v (omega (arith, lt))
-    ∙ ap (λ ts. first_gap (gap_at has heap) (take (budget - i) ts)) (sym next)
-    ∙ ap (λ o. option_or o (first_gap (gap_at has heap) (take (budget - i) (to_come heap es)))) (sym clear)
+    ap (λ k. option_or (gap_on known heap found) (first_gap (gap_at known heap) (take k (to_come heap after)))) less
+    ∙ gap-visited known (budget - i) heap before after child found v (omega (arith, lt))
+    ∙ ap (λ ts. first_gap (gap_at known heap) (take (budget - i) ts)) (sym next)
+    ∙ ap (λ o. option_or o (first_gap (gap_at known heap) (take (budget - i) (to_come heap es)))) (sym clear)

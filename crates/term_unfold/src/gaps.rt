@@ -5,7 +5,7 @@ ghost use Rattle.heap_cells.specs.HeapMap.{HeapMap, form_at};
 ghost use Rattle.heap_cells.specs.Targets.{number};
 ghost use Rattle.term_unfold.specs.Inner.Coming.{asked_by, asked_on, gap_on, HasLeafIn};
 ghost use Rattle.term_unfold.specs.Inner.Entries.{Serves};
-ghost use Rattle.term_unfold.specs.Parts.{has_cell, if_lacking, gap_of};
+ghost use Rattle.term_unfold.specs.Parts.{Known, asked_address, has_cell, if_lacking, is_told, gap_of};
 
 use crate::judging::{next_child, visit, visit_root};
 use crate::openings::Opened;
@@ -17,17 +17,30 @@ use term_forms::shapes::{Elem, Form};
 
 /// The addresses of the cells of a heap that isn't loaded.
 pub trait Addresses {
-    /// Whether a cell has the address.
-    ghost known: { Self → ℕ → Bool };
+    /// The addresses of all cells, and those of heap binaries.
+    ghost known: { Self → Known };
 
     /// Whether a cell has the address.
     fn has(&self, addr: u64) -> bool
-        ensures { result ≡ known self.now addr };
+        ensures { result ≡ (known self.now).cells addr };
+
+    /// Whether a heap binary has the address.
+    fn has_binary(&self, addr: u64) -> bool
+        ensures { result ≡ (known self.now).binaries addr };
 }
 
-// The address to which a cell refers, if it is a sub binary. The
-// kind is checked first, so that the text of no other cell is split.
-fn asked_by(heap: &Heap, ix: CellIx) -> Option<u64>
+/// What a node of a term asks for beside its own cell. Contracts see it in what a part of a heap lacks.
+#[derive(Clone, Copy)]
+pub enum Asked {
+    /// The cell at an address, where the heap has none.
+    CellAt(u64),
+    /// The heap binary at an address, of which the child is a part.
+    BinaryAt(u64),
+}
+
+// What a cell asks for, if it is a sub binary. The kind is
+// checked first, so that the text of no other cell is split.
+fn asked_by(heap: &Heap, ix: CellIx) -> Option<Asked>
     requires { number ix < length heap.now.cells }
     ensures { result ≡ asked_by (form_at heap.now.cells (number ix)) }
 {
@@ -35,20 +48,20 @@ fn asked_by(heap: &Heap, ix: CellIx) -> Option<u64>
         return None;
     }
     match heap.form(ix) {
-        Some(Form::SubBin(addr, _, _)) => Some(addr),
+        Some(Form::SubBin(addr, _, _)) => Some(Asked::BinaryAt(addr)),
         _ => None,
     }
 }
 
-// The address of the further cell that a child asks for by itself.
-fn asked_on(heap: &Heap, opened: Opened) -> Option<u64>
+// What a child asks for by itself.
+fn asked_on(heap: &Heap, opened: Opened) -> Option<Asked>
     requires { HasLeafIn heap.now.cells opened }
     ensures { result ≡ asked_on heap.now.cells opened }
 {
     match opened {
         Opened::Immediate => None,
         Opened::Leaf(ix) => asked_by(heap, ix),
-        Opened::Bad(addr, Why::Missing) => Some(addr),
+        Opened::Bad(addr, Why::Missing) => Some(Asked::CellAt(addr)),
         Opened::Bad(_, _) => None,
         Opened::Node(_, _) => None,
     }
@@ -64,23 +77,47 @@ fn has_cell(heap: &Heap, addr: u64) -> bool
     }
 }
 
-// The address, if the heap has no cell there and the whole heap has one.
-fn if_lacking<A: Addresses>(heap: &Heap, whole: &A, addr: u64) -> Option<u64>
-    ensures { result ≡ if_lacking (A.known whole.now) heap.now.cells addr }
+// Whether the whole heap has what is asked for.
+fn is_told<A: Addresses>(whole: &A, ask: Asked) -> bool
+    ensures { result ≡ is_told (A.known whole.now) ask }
 {
+    match ask {
+        Asked::CellAt(addr) => whole.has(addr),
+        Asked::BinaryAt(addr) => whole.has_binary(addr),
+    }
+}
+
+fn asked_address(ask: Asked) -> u64
+    ensures { result ≡ asked_address ask }
+{
+    match ask {
+        Asked::CellAt(addr) => addr,
+        Asked::BinaryAt(addr) => addr,
+    }
+}
+
+// The address of what is asked for, if the whole heap has it and the heap has no cell there.
+fn if_lacking<A: Addresses>(heap: &Heap, whole: &A, ask: Asked) -> Option<u64>
+    ensures { result ≡ if_lacking (A.known whole.now) heap.now.cells ask }
+{
+    let addr = asked_address(ask);
     if has_cell(heap, addr) {
         return None;
     }
-    if whole.has(addr) { Some(addr) } else { None }
+    if is_told(whole, ask) {
+        Some(addr)
+    } else {
+        None
+    }
 }
 
-// What a child asks for by itself, if the heap lacks it and the whole heap has it.
+// The address of what a child asks for by itself, if the heap lacks it and the whole heap has it.
 fn gap_on<A: Addresses>(heap: &Heap, whole: &A, opened: Opened) -> Option<u64>
     requires { HasLeafIn heap.now.cells opened }
     ensures { result ≡ gap_on (A.known whole.now) heap.now.cells opened }
 {
-    let addr = asked_on(heap, opened)?;
-    if_lacking(heap, whole, addr)
+    let ask = asked_on(heap, opened)?;
+    if_lacking(heap, whole, ask)
 }
 
 // The first gap among the first `budget` nodes of the root. The walk is left where it stops.
@@ -142,8 +179,8 @@ impl<'h> PartWalker<'h> {
         Ok(PartWalker { heap, path })
     }
 
-    /// The address of the first cell for which one of the first `budget` nodes of the root
-    /// asks, that the whole heap has and this one lacks. Takes no memory.
+    /// The address of the first cell or heap binary for which one of the first `budget` nodes of the
+    /// root asks, that the whole heap has and this one lacks. Takes no memory.
     pub fn first_gap<A: Addresses>(&mut self, root: Elem<'_>, budget: u32, whole: &A) -> Option<u64>
         requires { 0 < budget }
         ensures gap { result ≡ gap_of (A.known whole.now) self.old.cells

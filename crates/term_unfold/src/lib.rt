@@ -27,7 +27,7 @@ mod turns;
 mod verdict;
 mod walker;
 
-pub use gaps::{Addresses, PartWalker};
+pub use gaps::{Addresses, Asked, PartWalker};
 pub use kinds::{TermKind, are_keys, item_kind, term_kind};
 pub use laws::{
     inner_node_is_its_children, part_is_enough, text_is_of_first_nodes, unfolding_is_finite,

@@ -1,5 +1,5 @@
 -- How the text grows to which lines of a larger heap are appended, and when it is enough.
-use Rattle.std.specs.Prelude.{◌≡◌, ℕ, ◌+◌, ◌-◌, ◌*◌, ◌==◌, ◌<◌, ◌≤◌, Bool, List, [], ◌∷◌, ◌++◌, length, find, slice_index_or, Option, None, Some}
+use Rattle.std.specs.Prelude.{◌≡◌, ℕ, ◌+◌, ◌-◌, ◌*◌, ◌==◌, ◌<◌, ◌≤◌, List, [], ◌∷◌, ◌++◌, length, find, slice_index_or, Option, None, Some}
 use Rattle.std.specs.Option.{option_to_list}
 use Rattle.dump_io.specs.Dumps.{Now, DeviceState, ReadsAtMost}
 use Rattle.binary_payloads.specs.declared.enc.Enc.{Enc}
@@ -7,7 +7,7 @@ use Rattle.body_lines.specs.Lines.{AreWhole}
 use Rattle.term_forms.specs.Seen.{element}
 use Rattle.term_forms.specs.declared.shapes.Elem.{Elem}
 use Rattle.heap_cells.specs.Cells.{Cell, line_cells}
-use Rattle.term_unfold.specs.Parts.{gap_of}
+use Rattle.term_unfold.specs.Parts.{Known, gap_of}
 use Rattle.heap_parts.specs.Wholes.{HasLines, ServesLines}
 use Rattle.heap_parts.specs.declared.gathered.Source.{Source}
 
@@ -56,5 +56,5 @@ pub record Grows (from : Source) (before after : DeviceState) (old new : List �
       → AreFirstLines all (line_cells from.lines.now.enc old) → AreFirstLines all (line_cells from.lines.now.enc new)
 
 -- no root asks for what the heap lacks and `known` tells
-pub record FindsNoGap (known : ℕ → Bool) (part : List Cell) (roots : List Elem) (n : ℕ) : Type 0 where
+pub record FindsNoGap (known : Known) (part : List Cell) (roots : List Elem) (n : ℕ) : Type 0 where
   pub none : (k : ℕ) (d : Elem) → k < length roots → gap_of known part (element (slice_index_or roots k d)) n ≡ None

@@ -6,6 +6,8 @@ use Rattle.heap_cells.specs.Cells.{Cell}
 use Rattle.heap_cells.specs.HeapMap.{HeapMap, form_at}
 use Rattle.cell_records.specs.declared.cells.Why.TheVariants.{Missing}
 use Rattle.heap_cells.specs.Targets.{number}
+use Rattle.term_unfold.specs.declared.gaps.Asked.{Asked}
+use Rattle.term_unfold.specs.declared.gaps.Asked.TheVariants.{BinaryAt, CellAt}
 use Rattle.term_unfold.specs.declared.openings.Opened.{Opened}
 use Rattle.term_unfold.specs.declared.openings.Opened.TheVariants as opened
 use Rattle.term_unfold.specs.declared.path.Entry.{Entry}
@@ -13,7 +15,7 @@ use Rattle.term_unfold.specs.declared.verdict.Verdict.{Verdict}
 use Rattle.term_unfold.specs.declared.verdict.Verdict.TheVariants as verdicts
 use Rattle.term_unfold.specs.Inner.Entries.{path_of, Entered}
 use Rattle.term_unfold.specs.Inner.Children.{children_of}
-use Rattle.term_unfold.specs.Parts.{asked, if_lacking}
+use Rattle.term_unfold.specs.Parts.{Known, asked, if_lacking}
 use Rattle.term_unfold.specs.Rules.{Child}
 use Rattle.term_unfold.specs.Trees.{Tree, Bad, Trees, pre, pre_all}
 use Rattle.term_unfold.specs.Unfolding.{trees, unfolded}
@@ -50,20 +52,20 @@ abbrev pub or_else : Verdict → Verdict → Verdict
 or_else verdicts.Clean later = later
 or_else (verdicts.Bad address why) later = verdicts.Bad address why
 
--- the address of a further cell to which a form refers, if it is a sub binary
-abbrev pub asked_by : Option HeapForm → Option ℕ
-asked_by (Some (SubBin address offset size)) = Some address
+-- what the cell of a form asks for, if it is a sub binary
+abbrev pub asked_by : Option HeapForm → Option Asked
+asked_by (Some (SubBin address offset size)) = Some (BinaryAt address)
 asked_by form = None
 
 -- what a child asks for by itself
-abbrev pub asked_on : List Cell → Opened → Option ℕ
-asked_on heap (opened.Bad address Missing) = Some address
+abbrev pub asked_on : List Cell → Opened → Option Asked
+asked_on heap (opened.Bad address Missing) = Some (CellAt address)
 asked_on heap (opened.Leaf ix) = asked_by (form_at heap (number ix))
 asked_on heap found = None
 
--- what a child asks for, if the heap lacks it and `has` tells it
-abbrev pub gap_on : (ℕ → Bool) → List Cell → Opened → Option ℕ
-gap_on has heap found = option_and_then (if_lacking has heap) (asked_on heap found)
+-- the address of what a child asks for, if the heap lacks it and `known` tells it
+abbrev pub gap_on : Known → List Cell → Opened → Option ℕ
+gap_on known heap found = option_and_then (if_lacking known heap) (asked_on heap found)
 
 -- the cell of a leaf is one of the heap's
 abbrev pub HasLeafIn : List Cell → Opened → Type 0

@@ -8,13 +8,13 @@ use Rattle.term_unfold.proofs.gaps.first_gap.Goals as goal
 
 pub loop-preserved : goal.loop-preserved
 loop-preserved g c =
-    let has = g.A.Addresses.known c.args.whole.now in
+    let known = g.A.Addresses.known c.args.whole.now in
     let heap = c.args.heap.now.cells in
     record {
       cells = c.visit-opened.ensures.cells ∙ c.in-Some-next_child.ensures.cells ∙ c.loop.invariant.cells;
       same =
-          ap (λ o. option_or o (first_gap (gap_at has heap) (take (c.args.budget - (c.loop.counter + 1)) (to_come heap c.visit-opened.new.path.entries)))) c.gap_on-found-in-loop.ensures
-          ∙ gap-next has c.args.budget c.loop.counter heap c.loop.path.entries c.next_child.new.path.entries c.visit-opened.new.path.entries
+          ap (λ o. option_or o (first_gap (gap_at known heap) (take (c.args.budget - (c.loop.counter + 1)) (to_come heap c.visit-opened.new.path.entries)))) c.gap_on-found-in-loop.ensures
+          ∙ gap-next known c.args.budget c.loop.counter heap c.loop.path.entries c.next_child.new.path.entries c.visit-opened.new.path.entries
           (child_shown heap c.in-Some-next_child.child) c.loop.found c.visit-opened.result c.in_default.is (omega arith) c.in-Some-next_child.ensures.next c.visit-opened.ensures.visits
           ∙ c.loop.invariant.same;
     }
