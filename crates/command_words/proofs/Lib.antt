@@ -1,1 +1,2 @@
 pub mod LongWords
+mod RangeFacts

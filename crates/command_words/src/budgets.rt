@@ -1,5 +1,5 @@
 // How much of a term is shown, from the last words of a command.
-ghost use Rattle.std.specs.Prelude.{◌≡◌, ◌<◌, [], ◌∷◌, map, IfSome};
+ghost use Rattle.std.specs.Prelude.{◌≡◌, [], ◌∷◌, map};
 ghost use Rattle.std.specs.String.{string_bytes};
 ghost use Rattle.command_words.specs.Budgets.{budget, budget_of, counted, is_mark};
 
@@ -34,16 +34,14 @@ fn is_mark(word: &str) -> bool
 }
 
 fn counted(word: &str, marked: bool) -> Option<Budget>
-    ensures told { result ≡ counted marked word.now }
-    ensures nodes { IfSome result (λ budget. 0 < budget.nodes) }
+    ensures { result ≡ counted marked word.now }
 {
     let nodes = number_upto(word, MOST_NODES)?;
     Some(Budget::new(nodes, marked))
 }
 
 fn one_word(word: &str) -> Option<Budget>
-    ensures told { result ≡ budget_of (word.now ∷ []) }
-    ensures nodes { IfSome result (λ budget. 0 < budget.nodes) }
+    ensures { result ≡ budget_of (word.now ∷ []) }
 {
     if is_mark(word) {
         return Some(Budget::new(USUAL_NODES, true));
@@ -52,8 +50,7 @@ fn one_word(word: &str) -> Option<Budget>
 }
 
 fn two_words(nodes: &str, mark: &str) -> Option<Budget>
-    ensures told { result ≡ budget_of (nodes.now ∷ mark.now ∷ []) }
-    ensures nodes { IfSome result (λ budget. 0 < budget.nodes) }
+    ensures { result ≡ budget_of (nodes.now ∷ mark.now ∷ []) }
 {
     if !is_mark(mark) {
         return None;
@@ -64,8 +61,7 @@ fn two_words(nodes: &str, mark: &str) -> Option<Budget>
 /// The budget that the last words of a command give: a number of nodes from 1 to
 /// 1,000,000,000, which is 10,000 if it is left out, and then the word `marked` or nothing.
 pub(crate) fn read_budget(words: &[String]) -> Option<Budget>
-    ensures told { result ≡ budget_of (map string_bytes words.now) }
-    ensures nodes { IfSome result (λ budget. 0 < budget.nodes) }
+    ensures { result ≡ budget_of (map string_bytes words.now) }
 {
     match words {
         [] => Some(Budget::new(USUAL_NODES, false)),

@@ -2,7 +2,7 @@
 ghost use Rattle.std.specs.Prelude.{◌≡◌, ◌<◌, ℕ, Bool, [], ◌∷◌, List, map, option_map};
 ghost use Rattle.std.specs.Option.{IfSome};
 ghost use Rattle.std.specs.String.{string_bytes};
-ghost use Rattle.command_words.specs.Command.{Ask, audit, audit_json, audit_query, audit_settled, binary, command, full_of, holders, on, peek_query, peek_term, plain_query, process_query, roots_query, shapes_query, shown_command, shown_query, some_roots_query, stacks, term, term_query, triage, weigh_query, word_command, word_query, IsAskInRange, IsInRange, counted_shapes, is_pids, fields_query, cell_query, ext, path, waits, heavy_query};
+ghost use Rattle.command_words.specs.Command.{Ask, audit, audit_json, audit_query, audit_settled, binary, command, full_of, holders, on, peek_query, peek_term, plain_query, process_query, roots_query, shapes_query, shown_command, shown_query, some_roots_query, stacks, term, term_query, triage, weigh_query, word_command, word_query, IsInRange, counted_shapes, is_pids, fields_query, cell_query, ext, path, waits, heavy_query};
 ghost use Rattle.command_words.specs.Ranges.{number_upto};
 ghost use Rattle.dump_io.specs.Numbers.{hex_number};
 
@@ -198,6 +198,12 @@ pub fn read_words(words: &[String]) -> Option<Cmd<'_>>
     ensures reads { option_map shown_command result ≡ command (map string_bytes words.now) }
     ensures range { IfSome result (λ cmd. IsInRange (shown_command cmd)) }
 {
+    command(words)
+}
+
+fn command(words: &[String]) -> Option<Cmd<'_>>
+    ensures { option_map shown_command result ≡ command (map string_bytes words.now) }
+{
     match words {
         [name, file] => of_file(file.as_str(), plain_query(name.as_str())),
         [name, file, word] => word_command(name.as_str(), file.as_str(), word.as_str()),
@@ -211,18 +217,15 @@ pub fn read_words(words: &[String]) -> Option<Cmd<'_>>
 
 // The command that asks this of the dump in a file.
 fn of_file<'a>(file: &'a str, query: Option<Query<'a>>) -> Option<Cmd<'a>>
-    requires { IfSome query (λ query. IsAskInRange (shown_query query)) }
-    ensures reads { option_map shown_command result
+    ensures { option_map shown_command result
         ≡ option_map (on file.now) (option_map shown_query query.entry) }
-    ensures range { IfSome result (λ cmd. IsInRange (shown_command cmd)) }
 {
     let query = query?;
     Some(Cmd::On { file, query })
 }
 
 fn plain_query<'a>(name: &str) -> Option<Query<'a>>
-    ensures reads { option_map shown_query result ≡ plain_query name.now }
-    ensures range { IfSome result (λ query. IsAskInRange (shown_query query)) }
+    ensures { option_map shown_query result ≡ plain_query name.now }
 {
     match name {
         "index" => Some(Query::Index),
@@ -252,8 +255,7 @@ fn plain_query<'a>(name: &str) -> Option<Query<'a>>
 }
 
 fn word_command<'a>(name: &str, file: &'a str, word: &'a str) -> Option<Cmd<'a>>
-    ensures reads { option_map shown_command result ≡ word_command name.now file.now word.now }
-    ensures range { IfSome result (λ cmd. IsInRange (shown_command cmd)) }
+    ensures { option_map shown_command result ≡ word_command name.now file.now word.now }
 {
     match name {
         "make" => make_command(file, word),
@@ -263,8 +265,7 @@ fn word_command<'a>(name: &str, file: &'a str, word: &'a str) -> Option<Cmd<'a>>
 }
 
 fn word_query<'a>(name: &str, word: &'a str) -> Option<Query<'a>>
-    ensures reads { option_map shown_query result ≡ word_query name.now word.now }
-    ensures range { IfSome result (λ query. IsAskInRange (shown_query query)) }
+    ensures { option_map shown_query result ≡ word_query name.now word.now }
 {
     match name {
         "proc" => Some(Query::Proc { pid: word }),
@@ -281,49 +282,43 @@ fn word_query<'a>(name: &str, word: &'a str) -> Option<Query<'a>>
 }
 
 fn binary_query<'a>(word: &str) -> Option<Query<'a>>
-    ensures reads { option_map shown_query result ≡ option_map binary (hex_number word.now) }
-    ensures range { IfSome result (λ query. IsAskInRange (shown_query query)) }
+    ensures { option_map shown_query result ≡ option_map binary (hex_number word.now) }
 {
     let addr = hex_u64(word.as_bytes())?;
     Some(Query::Binary { addr })
 }
 
 fn holders_query<'a>(word: &str) -> Option<Query<'a>>
-    ensures reads { option_map shown_query result ≡ option_map holders (hex_number word.now) }
-    ensures range { IfSome result (λ query. IsAskInRange (shown_query query)) }
+    ensures { option_map shown_query result ≡ option_map holders (hex_number word.now) }
 {
     let addr = hex_u64(word.as_bytes())?;
     Some(Query::Holders { addr })
 }
 
 fn triage_query<'a>(word: &str) -> Option<Query<'a>>
-    ensures reads { option_map shown_query result ≡ option_map triage (number_upto 1000 word.now) }
-    ensures range { IfSome result (λ query. IsAskInRange (shown_query query)) }
+    ensures { option_map shown_query result ≡ option_map triage (number_upto 1000 word.now) }
 {
     let count = number_upto(word, MOST_ROWS)?;
     Some(Query::Triage { count })
 }
 
 fn stacks_query<'a>(word: &str) -> Option<Query<'a>>
-    ensures reads { option_map shown_query result ≡ option_map stacks (number_upto 1000 word.now) }
-    ensures range { IfSome result (λ query. IsAskInRange (shown_query query)) }
+    ensures { option_map shown_query result ≡ option_map stacks (number_upto 1000 word.now) }
 {
     let count = number_upto(word, MOST_ROWS)?;
     Some(Query::Stacks { count })
 }
 
 fn waits_query<'a>(word: &str) -> Option<Query<'a>>
-    ensures reads { option_map shown_query result ≡ option_map waits (number_upto 1000 word.now) }
-    ensures range { IfSome result (λ query. IsAskInRange (shown_query query)) }
+    ensures { option_map shown_query result ≡ option_map waits (number_upto 1000 word.now) }
 {
     let count = number_upto(word, MOST_ROWS)?;
     Some(Query::Waits { count })
 }
 
 fn process_query<'a>(name: &str, word: &'a str, words: &'a [String]) -> Option<Query<'a>>
-    ensures reads { option_map shown_query result
+    ensures { option_map shown_query result
         ≡ process_query name.now word.now (map string_bytes words.now) }
-    ensures range { IfSome result (λ query. IsAskInRange (shown_query query)) }
 {
     match name {
         "stack" => roots_query(RootKind::Stack, word, words),
@@ -345,9 +340,8 @@ fn process_query<'a>(name: &str, word: &'a str, words: &'a [String]) -> Option<Q
 }
 
 fn roots_query<'a>(kind: RootKind, pid: &'a str, words: &[String]) -> Option<Query<'a>>
-    ensures reads { option_map shown_query result
+    ensures { option_map shown_query result
         ≡ roots_query kind pid.now (map string_bytes words.now) }
-    ensures range { IfSome result (λ query. IsAskInRange (shown_query query)) }
 {
     let Budget { nodes, marked } = read_budget(words)?;
     Some(Query::Roots {
@@ -365,10 +359,9 @@ struct Place {
 }
 
 fn read_place(words: &[String]) -> Option<Place>
-    ensures reads { (form : List ℕ → ℕ → ℕ → Bool → Ask) (pid : List ℕ)
+    ensures { (form : List ℕ → ℕ → ℕ → Bool → Ask) (pid : List ℕ)
         → option_map (λ p. form pid p.addr p.budget.nodes p.budget.marked) result
         ≡ term_query form pid (map string_bytes words.now) }
-    ensures range { IfSome result (λ p. 0 < p.budget.nodes) }
 {
     let [addr, rest @ ..] = words else {
         return None;
@@ -379,9 +372,8 @@ fn read_place(words: &[String]) -> Option<Place>
 }
 
 fn term_query<'a>(pid: &'a str, words: &[String]) -> Option<Query<'a>>
-    ensures reads { option_map shown_query result
+    ensures { option_map shown_query result
         ≡ term_query term pid.now (map string_bytes words.now) }
-    ensures range { IfSome result (λ query. IsAskInRange (shown_query query)) }
 {
     let Place { addr, budget } = read_place(words)?;
     Some(Query::Term {
@@ -393,9 +385,8 @@ fn term_query<'a>(pid: &'a str, words: &[String]) -> Option<Query<'a>>
 }
 
 fn peek_term_query<'a>(pid: &'a str, words: &[String]) -> Option<Query<'a>>
-    ensures reads { option_map shown_query result
+    ensures { option_map shown_query result
         ≡ term_query peek_term pid.now (map string_bytes words.now) }
-    ensures range { IfSome result (λ query. IsAskInRange (shown_query query)) }
 {
     let Place { addr, budget } = read_place(words)?;
     Some(Query::PeekTerm {
@@ -407,9 +398,8 @@ fn peek_term_query<'a>(pid: &'a str, words: &[String]) -> Option<Query<'a>>
 }
 
 fn some_roots_query<'a>(kind: RootKind, pid: &'a str, words: &[String]) -> Option<Query<'a>>
-    ensures reads { option_map shown_query result
+    ensures { option_map shown_query result
         ≡ some_roots_query kind pid.now (map string_bytes words.now) }
-    ensures range { IfSome result (λ query. IsAskInRange (shown_query query)) }
 {
     let [first, count, rest @ ..] = words else {
         return None;
@@ -428,9 +418,8 @@ fn some_roots_query<'a>(kind: RootKind, pid: &'a str, words: &[String]) -> Optio
 }
 
 fn peek_query<'a>(pid: &'a str, words: &[String]) -> Option<Query<'a>>
-    ensures reads { option_map shown_query result
+    ensures { option_map shown_query result
         ≡ peek_query pid.now (map string_bytes words.now) }
-    ensures range { IfSome result (λ query. IsAskInRange (shown_query query)) }
 {
     let [what, rest @ ..] = words else {
         return None;
@@ -451,8 +440,7 @@ fn is_pids(word: &str) -> bool
 
 // Kinds of messages, at most as many as a word says.
 fn counted_shapes<'a>(pid: &'a str, pids: bool, word: &str) -> Option<Query<'a>>
-    ensures reads { option_map shown_query result ≡ counted_shapes pid.now pids word.now }
-    ensures range { IfSome result (λ query. IsAskInRange (shown_query query)) }
+    ensures { option_map shown_query result ≡ counted_shapes pid.now pids word.now }
 {
     let count = number_upto(word, MOST_ROWS)?;
     Some(Query::Shapes { pid, count, pids })
@@ -460,8 +448,7 @@ fn counted_shapes<'a>(pid: &'a str, pids: bool, word: &str) -> Option<Query<'a>>
 
 // Kinds of messages, given a number of them or the word `pids`.
 fn one_word_shapes<'a>(pid: &'a str, word: &str) -> Option<Query<'a>>
-    ensures reads { option_map shown_query result ≡ shapes_query pid.now (word.now ∷ []) }
-    ensures range { IfSome result (λ query. IsAskInRange (shown_query query)) }
+    ensures { option_map shown_query result ≡ shapes_query pid.now (word.now ∷ []) }
 {
     if is_pids(word) {
         return Some(Query::Shapes {
@@ -475,8 +462,7 @@ fn one_word_shapes<'a>(pid: &'a str, word: &str) -> Option<Query<'a>>
 
 // Kinds of messages, given a number of them and what has to be the word `pids`.
 fn two_word_shapes<'a>(pid: &'a str, count: &str, last: &str) -> Option<Query<'a>>
-    ensures reads { option_map shown_query result ≡ shapes_query pid.now (count.now ∷ last.now ∷ []) }
-    ensures range { IfSome result (λ query. IsAskInRange (shown_query query)) }
+    ensures { option_map shown_query result ≡ shapes_query pid.now (count.now ∷ last.now ∷ []) }
 {
     if !is_pids(last) {
         return None;
@@ -485,9 +471,8 @@ fn two_word_shapes<'a>(pid: &'a str, count: &str, last: &str) -> Option<Query<'a
 }
 
 fn shapes_query<'a>(pid: &'a str, words: &[String]) -> Option<Query<'a>>
-    ensures reads { option_map shown_query result
+    ensures { option_map shown_query result
         ≡ shapes_query pid.now (map string_bytes words.now) }
-    ensures range { IfSome result (λ query. IsAskInRange (shown_query query)) }
 {
     match words {
         [] => Some(Query::Shapes {
@@ -502,9 +487,8 @@ fn shapes_query<'a>(pid: &'a str, words: &[String]) -> Option<Query<'a>>
 }
 
 fn weigh_query<'a>(pid: &'a str, words: &[String]) -> Option<Query<'a>>
-    ensures reads { option_map shown_query result
+    ensures { option_map shown_query result
         ≡ weigh_query pid.now (map string_bytes words.now) }
-    ensures range { IfSome result (λ query. IsAskInRange (shown_query query)) }
 {
     match words {
         [] => Some(Query::Weigh {
@@ -525,9 +509,8 @@ fn weigh_query<'a>(pid: &'a str, words: &[String]) -> Option<Query<'a>>
 }
 
 fn heavy_query<'a>(pid: &'a str, words: &[String]) -> Option<Query<'a>>
-    ensures reads { option_map shown_query result
+    ensures { option_map shown_query result
         ≡ heavy_query pid.now (map string_bytes words.now) }
-    ensures range { IfSome result (λ query. IsAskInRange (shown_query query)) }
 {
     match words {
         [] => Some(Query::Heavy {
@@ -554,17 +537,15 @@ fn only_address(words: &[String]) -> Option<u64>
 }
 
 fn ext_query<'a>(pid: &'a str, words: &[String]) -> Option<Query<'a>>
-    ensures reads { option_map shown_query result ≡ cell_query ext pid.now (map string_bytes words.now) }
-    ensures range { IfSome result (λ query. IsAskInRange (shown_query query)) }
+    ensures { option_map shown_query result ≡ cell_query ext pid.now (map string_bytes words.now) }
 {
     let addr = only_address(words)?;
     Some(Query::Ext { pid, addr })
 }
 
 fn fields_query<'a>(tag: &'a str, words: &'a [String]) -> Option<Query<'a>>
-    ensures reads { option_map shown_query result
+    ensures { option_map shown_query result
         ≡ fields_query tag.now (map string_bytes words.now) }
-    ensures range { IfSome result (λ query. IsAskInRange (shown_query query)) }
 {
     let [key] = words else {
         return None;
@@ -576,8 +557,7 @@ fn fields_query<'a>(tag: &'a str, words: &'a [String]) -> Option<Query<'a>>
 }
 
 fn path_query<'a>(pid: &'a str, words: &[String]) -> Option<Query<'a>>
-    ensures reads { option_map shown_query result ≡ cell_query path pid.now (map string_bytes words.now) }
-    ensures range { IfSome result (λ query. IsAskInRange (shown_query query)) }
+    ensures { option_map shown_query result ≡ cell_query path pid.now (map string_bytes words.now) }
 {
     let addr = only_address(words)?;
     Some(Query::Path { pid, addr })
@@ -595,9 +575,8 @@ fn full_of(words: &[String]) -> Option<bool>
 }
 
 fn audit_query<'a>(limit: &str, words: &[String]) -> Option<Query<'a>>
-    ensures reads { option_map shown_query result
+    ensures { option_map shown_query result
         ≡ audit_query audit limit.now (map string_bytes words.now) }
-    ensures range { IfSome result (λ query. IsAskInRange (shown_query query)) }
 {
     let limit = dec_u64(limit.as_bytes())?;
     let full = full_of(words)?;
@@ -605,9 +584,8 @@ fn audit_query<'a>(limit: &str, words: &[String]) -> Option<Query<'a>>
 }
 
 fn audit_json_query<'a>(limit: &str, words: &[String]) -> Option<Query<'a>>
-    ensures reads { option_map shown_query result
+    ensures { option_map shown_query result
         ≡ audit_query audit_json limit.now (map string_bytes words.now) }
-    ensures range { IfSome result (λ query. IsAskInRange (shown_query query)) }
 {
     let limit = dec_u64(limit.as_bytes())?;
     let full = full_of(words)?;
@@ -615,9 +593,8 @@ fn audit_json_query<'a>(limit: &str, words: &[String]) -> Option<Query<'a>>
 }
 
 fn audit_settled_query<'a>(limit: &str, words: &[String]) -> Option<Query<'a>>
-    ensures reads { option_map shown_query result
+    ensures { option_map shown_query result
         ≡ audit_query audit_settled limit.now (map string_bytes words.now) }
-    ensures range { IfSome result (λ query. IsAskInRange (shown_query query)) }
 {
     let limit = dec_u64(limit.as_bytes())?;
     let full = full_of(words)?;
