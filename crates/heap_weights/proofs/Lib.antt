@@ -1,5 +1,6 @@
 pub mod Going
 pub mod Holding
+pub mod Joining
 pub mod Labelling
 pub mod Reachers
 pub mod Reaching

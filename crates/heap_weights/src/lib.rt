@@ -7,7 +7,7 @@
 //! [`weigh`] keeps a label for each cell: nobody, a part, or several. One part after the other walks: it gives its
 //! label to the cells that nobody held, turns those of other parts to several, and leads no further from
 //! a cell that has its label or is several. So a cell is visited at most twice, however many parts there
-//! are. Then one pass counts the cells and the words of each label.
+//! are. Then one pass counts the cells and the words of each label, and their sums are what is reached.
 //!
 //! ```
 //! let shares = weigh(alloc, &heap, &[3, 0])?;
@@ -15,6 +15,7 @@
 //! ```
 #![tactic(auto)]
 
+mod counted;
 mod holders;
 mod labels;
 mod laws;

@@ -4,8 +4,9 @@ ghost use Rattle.cell_graphs.specs.Graphs.{LeadsWithin};
 ghost use Rattle.heap_weights.specs.Holders.{holder_at};
 ghost use Rattle.heap_weights.specs.Shares.{AreShares};
 ghost use Rattle.heap_weights.specs.Inner.Labels.{AreHeldBy, IsRested};
-ghost use Rattle.heap_weights.specs.Inner.Tallies.{HasTallied};
+ghost use Rattle.heap_weights.specs.Inner.Tallies.{HasCounted};
 
+use crate::counted::Counted;
 use crate::labels::Labels;
 use crate::shares::Shares;
 use crate::walking::walk;
@@ -27,22 +28,22 @@ fn walk_all<G: CellGraph>(graph: &G, labels: &mut Labels, roots: &[u32])
     }
 }
 
-// The shares of so many parts, one cell after another.
+// Counts one cell after another, for so many parts.
 fn tally<G: Weighed>(
     alloc: Global,
     graph: &G,
     labels: &Labels,
     parts: usize,
-) -> Result<Shares, AllocError>
+) -> Result<Counted, AllocError>
     requires { IsRested (G.graph graph.now) parts labels.now }
-    ensures { IfOk result (HasTallied (G.words graph.now) (G.binaries graph.now) (holder_at labels.now.holders) parts
+    ensures { IfOk result (HasCounted (G.words graph.now) (G.binaries graph.now) (holder_at labels.now.holders) parts
         (G.own graph.now)) }
 {
-    let mut shares = Shares::new(alloc, parts)?;
+    let mut counted = Counted::new(alloc, parts)?;
     for n in 0..graph.own() {
-        shares.add(labels.holder(n), graph.words(n), graph.is_binary(n));
+        counted.add(labels.holder(n), graph.words(n), graph.is_binary(n));
     }
-    Ok(shares)
+    Ok(counted)
 }
 
 /// What parts hold of a heap's own cells. A part is a cell, its root; the parts are those with these roots, in order.
@@ -56,5 +57,6 @@ pub fn weigh<G: Weighed>(alloc: Global, graph: &G, roots: &[u32]) -> Result<Shar
 {
     let mut labels = Labels::new(alloc, graph.cells() as usize)?;
     walk_all(graph, &mut labels, roots);
-    tally(alloc, graph, &labels, roots.len())
+    let counted = tally(alloc, graph, &labels, roots.len())?;
+    Ok(counted.shares())
 }

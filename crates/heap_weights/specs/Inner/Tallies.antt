@@ -1,12 +1,12 @@
 -- Counting what parts hold.
-use Rattle.std.specs.Prelude.{◌≡◌, ℕ, ◌+◌, ◌*◌, ◌<◌, ◌≤◌, ◌^◌, ◌-◌, Bool, true, List, length, min, if◌then◌else◌, slice_index_or}
+use Rattle.std.specs.Prelude.{◌≡◌, ℕ, ◌+◌, ◌*◌, ◌<◌, ◌≤◌, ◌^◌, ◌-◌, Bool, List, [], ◌∷◌, length, min, if◌then◌else◌, slice_index_or}
 use Rattle.cell_graphs.specs.Counts.{one_if}
+use Rattle.heap_weights.specs.declared.counted.Counted.{Counted}
 use Rattle.heap_weights.specs.declared.holders.Holder.{Holder}
-use Rattle.heap_weights.specs.declared.holders.Holder.TheVariants.{Several, Part}
+use Rattle.heap_weights.specs.declared.holders.Holder.TheVariants.{Nobody, Several, Part}
 use Rattle.heap_weights.specs.declared.shares.Shares.{Shares}
 use Rattle.heap_weights.specs.declared.shares.Weight.{Weight}
-use Rattle.heap_weights.specs.Holders.{is_held}
-use Rattle.heap_weights.specs.Shares.{is_same, weight_below, weight_of, words_below}
+use Rattle.heap_weights.specs.Shares.{is_same, weight_of, words_below}
 
 -- no cells
 abbrev pub no_weight : Weight
@@ -29,18 +29,37 @@ pub record GainsAlone (holder : Holder) (words : ℕ) (binary : Bool) (old new :
   pub size : length new ≡ length old
   pub each : (part : ℕ) → alone_at new part ≡ added_if (is_same (Part part) holder) words binary (alone_at old part)
 
--- one cell more is held
-pub record Gains (holder : Holder) (words : ℕ) (binary : Bool) (old new : Shares) : Type 0 where
+-- one cell more is counted
+pub record Gains (holder : Holder) (words : ℕ) (binary : Bool) (old new : Counted) : Type 0 where
   pub alone : GainsAlone holder words binary old.alone.items new.alone.items
   pub shared : new.shared ≡ added_if (is_same Several holder) words binary old.shared
-  pub reached : new.reached ≡ added_if (is_held holder) words binary old.reached
-  pub own : new.own ≡ added_if true words binary old.own
+  pub unheld : new.unheld ≡ added_if (is_same Nobody holder) words binary old.unheld
 
--- the shares of the first n cells, of which none has more words than a u64 counts
-pub record HasTallied (words : List ℕ) (binaries : List Bool) (holders : ℕ → Holder) (parts n : ℕ) (shares : Shares) : Type 0 where
+-- what two sets of cells weigh together
+abbrev pub sum_of : Weight → Weight → Weight
+sum_of a b = record {
+  cells = min (a.cells + b.cells) (2 ^ 32 - 1);
+  words = min (a.words + b.words) (2 ^ 128 - 1);
+  binaries = min (a.binaries + b.binaries) (2 ^ 32 - 1);
+}
+
+-- what several sets of cells weigh together, and a first one
+abbrev pub all_of : Weight → List Weight → Weight
+all_of first [] = first
+all_of first (weight ∷ weights) = all_of (sum_of first weight) weights
+
+-- the first n cells were counted, which have numbers of four bytes, and of which none has more words than a u64 counts
+pub record HasCounted (words : List ℕ) (binaries : List Bool) (holders : ℕ → Holder) (parts n : ℕ) (counted : Counted) : Type 0 where
+  pub few : n < 2 ^ 32
   pub small : (set : ℕ → Bool) → words_below words set n ≤ n * 2 ^ 64
-  pub size : length shares.alone.items ≡ parts
-  pub alone : (part : ℕ) → part < parts → alone_at shares.alone.items part ≡ weight_of words binaries holders (Part part) n
-  pub shared : shares.shared ≡ weight_of words binaries holders Several n
-  pub reached : shares.reached ≡ weight_below words binaries (λ k. is_held (holders k)) n
-  pub own : shares.own ≡ weight_below words binaries (λ k. true) n
+  pub size : length counted.alone.items ≡ parts
+  pub alone : (part : ℕ) → part < parts → alone_at counted.alone.items part ≡ weight_of words binaries holders (Part part) n
+  pub shared : counted.shared ≡ weight_of words binaries holders Several n
+  pub unheld : counted.unheld ≡ weight_of words binaries holders Nobody n
+
+-- the parts reach what they hold alone and what they share, and the others are held by nobody
+pub record AddUp (counted : Counted) (shares : Shares) : Type 0 where
+  pub alone : shares.alone ≡ counted.alone
+  pub shared : shares.shared ≡ counted.shared
+  pub reached : shares.reached ≡ all_of counted.shared counted.alone.items
+  pub own : shares.own ≡ sum_of shares.reached counted.unheld
