@@ -23,7 +23,8 @@ fn push_key(
     ensures { OnOk result (text.new.items ≡ text.old.items
         ++ key_text skeleton.now firsts.now tuples.now (KeyPlace.At cell place)) }
 {
-    if place >= firsts.count(cell) {
+    let front = firsts.front(cell);
+    if place >= front.count() {
         return text.extend_from_slice(b"?");
     }
     push_element(
@@ -32,7 +33,7 @@ fn push_key(
         skeleton,
         tuples,
         inner,
-        &firsts.element(cell, place),
+        &front.element(place),
         false,
     )
 }

@@ -45,17 +45,11 @@ fn push_value(
     ensures { OnOk result (text.new.items ≡ text.old.items
         ++ value_text skeleton.now firsts.now tuples.now pair) }
 {
-    if firsts.count(pair) <= 1 {
+    let front = firsts.front(pair);
+    if front.count() <= 1 {
         return text.extend_from_slice(b"?");
     }
-    push_term(
-        alloc,
-        text,
-        skeleton,
-        tuples,
-        inner,
-        &firsts.element(pair, 1),
-    )
+    push_term(alloc, text, skeleton, tuples, inner, &front.element(1))
 }
 
 // Appends the shape of a part.

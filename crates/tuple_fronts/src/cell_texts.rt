@@ -6,6 +6,7 @@ ghost use Rattle.tuple_fronts.specs.CellTexts.{element_text, element_texts, inne
 ghost use Rattle.tuple_fronts.specs.Tuples.{front_at};
 
 use crate::cell_set::CellSet;
+use crate::front::Front;
 use crate::texts::Texts;
 use crate::tuples::Tuples;
 use crate::words::{kind_word, push_comma, push_end, push_pid, push_plain_with, push_tag};
@@ -50,15 +51,14 @@ fn push_tag_at(
 fn push_tags(
     alloc: Global,
     text: &mut Vec<u8>,
-    tuples: &Tuples,
-    cell: u32,
+    front: &Front<'_>,
     pids: bool,
 ) -> Result<(), AllocError>
-    ensures { OnOk result (text.new.items ≡ text.old.items ++ comma_list (tags_with pids (front_at tuples.now cell))) }
+    ensures { OnOk result (text.new.items ≡ text.old.items ++ comma_list (tags_with pids front.now)) }
 {
-    for place in 0..tuples.count(cell) {
+    for place in 0..front.count() {
         push_comma(text, place)?;
-        push_tag_at(alloc, text, place, &tuples.element(cell, place), pids)?;
+        push_tag_at(alloc, text, place, &front.element(place), pids)?;
     }
     Ok(())
 }
@@ -76,9 +76,10 @@ fn push_inner_tuple(
     ensures { OnOk result (text.new.items ≡ text.old.items
         ++ tuple_with (size_of skeleton.now cell) (tags_with pids (front_at tuples.now cell))) }
 {
+    let front = tuples.front(cell);
     text.push(b'{')?;
-    push_tags(alloc, text, tuples, cell, pids)?;
-    push_end(text, tuples.count(cell), skeleton.places(cell))
+    push_tags(alloc, text, &front, pids)?;
+    push_end(text, front.count(), skeleton.places(cell))
 }
 
 // Makes the shape of a cell inside a message.
@@ -171,14 +172,14 @@ fn push_elements(
     skeleton: &Skeleton,
     tuples: &Tuples,
     inner: &Texts,
-    cell: u32,
+    front: &Front<'_>,
     pids: bool,
 ) -> Result<(), AllocError>
     requires { AreInner pids skeleton.now tuples.now inner.now }
     ensures { OnOk result (text.new.items ≡ text.old.items
-        ++ comma_list (element_texts pids skeleton.now tuples.now cell)) }
+        ++ comma_list (map (element_text pids skeleton.now tuples.now) front.now)) }
 {
-    for place in 0..tuples.count(cell) {
+    for place in 0..front.count() {
         push_comma(text, place)?;
         push_element(
             alloc,
@@ -186,7 +187,7 @@ fn push_elements(
             skeleton,
             tuples,
             inner,
-            &tuples.element(cell, place),
+            &front.element(place),
             pids,
         )?;
     }
@@ -208,9 +209,10 @@ fn push_subject_tuple(
     ensures { OnOk result (text.new.items ≡ text.old.items
         ++ tuple_with (size_of skeleton.now cell) (element_texts pids skeleton.now tuples.now cell)) }
 {
+    let front = tuples.front(cell);
     text.push(b'{')?;
-    push_elements(alloc, text, skeleton, tuples, inner, cell, pids)?;
-    push_end(text, tuples.count(cell), skeleton.places(cell))
+    push_elements(alloc, text, skeleton, tuples, inner, &front, pids)?;
+    push_end(text, front.count(), skeleton.places(cell))
 }
 
 /// Appends the shape of a cell to which a message refers, given the tuples that it needs, and their shapes inside messages.

@@ -26,6 +26,7 @@
 mod cell_set;
 mod cell_texts;
 mod first_elements;
+mod front;
 mod front_lines;
 mod front_sink;
 mod fronts;
@@ -40,6 +41,7 @@ mod words;
 pub use cell_set::CellSet;
 pub use cell_texts::{inner_texts, push_element, push_subject};
 pub use first_elements::MOST_ELEMENTS;
+pub use front::Front;
 pub use fronts::TupleFronts;
 pub use needed::{add_lead, add_needed};
 pub use shapes::{cell_shapes, cell_shapes_with, inner_shapes};

@@ -1,5 +1,5 @@
 // The tuples whose first elements are known.
-ghost use Rattle.std.specs.Prelude.{◌≡◌, ◌<◌, All, length, slice_get, Some, IfErr, IfOk, IfSome};
+ghost use Rattle.std.specs.Prelude.{◌≡◌, ◌<◌, All, length, IfErr, IfOk, IfSome};
 ghost use Rattle.std.specs.List.Sorted.{IsStrictlyIncreasing};
 ghost use Rattle.dump_io.specs.Dumps.{IfTold, ReadsAtMost};
 ghost use Rattle.dump_io.specs.Faults.{IsReadCauseOf};
@@ -7,19 +7,18 @@ ghost use Rattle.dump_sections.specs.Index.{IsBuiltOver, sections_in};
 ghost use Rattle.dump_sections.specs.Loading.{bodies_length};
 ghost use Rattle.heap_cells.specs.Loading.{heap_bodies};
 ghost use Rattle.heap_skeleton.specs.Skeletons.{skeleton_for};
-ghost use Rattle.term_forms.specs.Seen.{element};
 ghost use Rattle.tuple_fronts.specs.Fronts.{firsts_for};
 ghost use Rattle.tuple_fronts.specs.CellSets.{place_of};
 ghost use Rattle.tuple_fronts.specs.Tuples.{front_at};
 
 use crate::cell_set::CellSet;
+use crate::front::Front;
 use crate::fronts::TupleFronts;
 use dump_io::{Dumps, ReadFault};
 use dump_sections::Index;
 use heap_skeleton::Skeleton;
 use std::alloc::Global;
 use std::marker::Model;
-use term_forms::shapes::Elem;
 
 /// Tuples and lists, and the first elements of each, which are found by the number of its cell. Contracts see both.
 #[derive(Drop)]
@@ -91,24 +90,10 @@ impl Tuples {
         self.cells.place(cell)
     }
 
-    /// How many first elements of a cell are known.
-    pub fn count(&self, cell: u32) -> usize
-        ensures { result ≡ length (front_at self.now cell) }
+    /// The first elements of a cell; of one that isn't among these cells none. The cell is looked up once, for all of its elements.
+    pub fn front(&self, cell: u32) -> Front<'_>
+        ensures { result ≡ front_at self.now cell }
     {
-        match self.cells.place(cell) {
-            Some(i) => self.fronts.count(i),
-            None => 0,
-        }
-    }
-
-    /// The element at a place of a cell.
-    pub fn element(&self, cell: u32, place: usize) -> Elem<'_>
-        requires { place < length (front_at self.now cell) }
-        ensures { slice_get (front_at self.now cell) place ≡ Some (element result) }
-    {
-        match self.cells.place(cell) {
-            Some(i) => self.fronts.element(i, place),
-            None => unreachable!(),
-        }
+        Front::new(&self.fronts, self.cells.place(cell))
     }
 }
