@@ -1,11 +1,11 @@
 // Depths that are found by going over all cells in the order of their numbers.
-ghost use Rattle.std.specs.Prelude.{◌≡◌, ℕ, ◌+◌, ◌<◌, ◌-◌, ◌^◌, Bool, All, false, length, nat_eq, IfOk, IfSome, None};
+ghost use Rattle.std.specs.Prelude.{◌≡◌, ℕ, ◌<◌, ◌-◌, ◌^◌, All, length, nat_eq, IfOk, IfSome, None};
 ghost use Rattle.cell_graphs.specs.Frontiers.{is_on};
 ghost use Rattle.cell_graphs.specs.Graphs.{LeadsWithin};
 ghost use Rattle.cell_graphs.specs.Rounds.{is_to, leads_to};
 ghost use Rattle.cell_ways.specs.Ways.{at_cell};
 ghost use Rattle.cell_ways.specs.Inner.Search.{AreDepths};
-ghost use Rattle.cell_ways.specs.Inner.Sweeps.{turned, AreSteps, GoesOver, Lowers, Sweeps};
+ghost use Rattle.cell_ways.specs.Inner.Sweeps.{turned, GoesOver, Lowers, Sweeps};
 
 use crate::numbers::{NOWHERE, number_at};
 use cell_graphs::CellGraph;

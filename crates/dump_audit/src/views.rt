@@ -5,7 +5,7 @@ ghost use Rattle.link_graph.specs.Lists.{links_at};
 ghost use Rattle.link_graph.specs.Seen.{shown_kind};
 ghost use Rattle.link_graph.specs.Graph.{graph_of};
 ghost use Rattle.dump_audit.specs.Findings.{partner_pid};
-ghost use Rattle.dump_audit.specs.FindingViews.{kind_at, partner_at, partner_in, pid_at, reference_at, reference_in, shown_view, view_of};
+ghost use Rattle.dump_audit.specs.FindingViews.{kind_at, partner_at, pid_at, reference_at, shown_view, view_of};
 ghost use Rattle.dump_audit.specs.Fitting.{Fits};
 
 use crate::finding::Finding;

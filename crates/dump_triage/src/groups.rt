@@ -1,10 +1,8 @@
 // Groups of processes that stand at the same place, and of ports that are the same.
-ghost use Rattle.std.specs.Prelude.{◌≡◌, ◌<◌, ◌++◌, [], filter, length, unwrap_or, All, IfOk};
+ghost use Rattle.std.specs.Prelude.{◌≡◌, ◌<◌, [], filter, length, unwrap_or, All, IfOk};
 ghost use Rattle.section_rows.specs.Rows.{row_at};
-ghost use Rattle.section_rows.specs.Shown.{shown_cell};
 ghost use Rattle.process_table.specs.Numbers.{stated_number};
 ghost use Rattle.process_table.specs.Processes.{process_at};
-ghost use Rattle.text_groups.specs.Sorting.{most_first};
 ghost use Rattle.dump_triage.specs.Triage.{first_groups, has_use, is_several, largest_groups, largest_ports, port_item, stand_item, stand_items, stand_text};
 
 use crate::shown::shown_text;
