@@ -22,23 +22,26 @@ edump="$here/../crates/edump/out/edump"
 forms=$("$here/../.ci/documents" --forms) || exit 1
 slow=0
 
-# The best seconds of so many rounds of a command on a file.
+# The seconds of a command on a file, or those before it if they are fewer; `-` if there are none before it.
 best() {
-    count=$1
+    before=$1
     shift
-    for _ in $(seq "$count"); do
-        timeout 120 "$folder/bench" measure /dev/null "$edump" "$@" 2>/dev/null || echo "120 0"
-    done | sort -n | awk 'NR == 1 { print $1 }'
+    now=$(timeout 120 "$folder/bench" measure /dev/null "$edump" "$@" 2>/dev/null || echo "120 0")
+    echo "$before ${now%% *}" | awk '{ print ($1 == "-" || $2 < $1) ? $2 : $1 }'
 }
 
-# Times so many rounds of a command on the hostile dump, on the ordinary one, and on the larger one.
+# Times so many rounds of a command on the hostile dump, on the ordinary one, and on the larger one, which
+# take turns, so that a machine that is slow for a while is so for all three.
 time_all() {
     count=$1
     command=$2
     shift 2
-    took=$(best "$count" "$command" "$folder/once" "$@")
-    usual=$(best "$count" "$command" "$folder/plain" "$@")
-    twice=$(best "$count" "$command" "$folder/twice" "$@")
+    took=- usual=- twice=-
+    for _ in $(seq "$count"); do
+        took=$(best "$took" "$command" "$folder/once" "$@")
+        usual=$(best "$usual" "$command" "$folder/plain" "$@")
+        twice=$(best "$twice" "$command" "$folder/twice" "$@")
+    done
 }
 
 # Whether what was timed comes near to a bound.

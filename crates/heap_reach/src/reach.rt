@@ -13,7 +13,7 @@ ghost use Rattle.heap_reach.specs.Unreached.{missed, missed_below, unreached_of,
 ghost use Rattle.heap_weights.specs.Labels.{frontier};
 
 use heap_cells::{CellIx, Heap, Seat};
-use heap_weights::{Labels, spread};
+use heap_weights::{Labels, last_leads, spread};
 use std::alloc::{AllocError, Global};
 use std::marker::Model;
 use term_forms::shapes::Elem;
@@ -63,6 +63,8 @@ fn missed_cells(alloc: Global, heap: &Heap, labels: &Labels) -> Result<Vec<u64>,
 #[derive(Drop)]
 pub struct Reach<'h> {
     heap: &'h Heap,
+    // Where the last places of all cells lead.
+    lasts: Vec<u32>,
     // A cell is reached if part 0, which comes to each root, has come to it.
     labels: Labels,
 }
@@ -76,6 +78,7 @@ impl<'h> Model for Reach<'h> {
     ghost use Rattle.cell_graphs.specs.Frontiers.{IsSettled};
     ghost use Rattle.heap_reach.specs.Reached.{Reaching};
     ghost use Rattle.heap_weights.specs.Labels.{frontier};
+    ghost use Rattle.heap_weights.specs.LastLeads.{TellsLasts};
 
     ghost Value = { Reaching };
 
@@ -86,11 +89,11 @@ impl<'h> Model for Reach<'h> {
     } };
 
     ghost invariant = { λ r. IsBounded r.heap.now × (length r.labels.holders ≡ length r.heap.now.cells)
-        × IsSettled (graph_of r.heap.now.cells) (frontier r.labels) };
+        × IsSettled (graph_of r.heap.now.cells) (frontier r.labels) × TellsLasts (graph_of r.heap.now.cells) r.lasts.items };
 }
 
 impl<'h> Reach<'h> {
-    /// A heap of which no cell is reached yet. Takes all the memory that calls of `root` need: four bytes for
+    /// A heap of which no cell is reached yet. Takes all the memory that calls of `root` need: eight bytes for
     /// each cell, and room for exactly as many entries in the list of cells that are still to be visited.
     pub fn new(alloc: Global, heap: &'h Heap) -> Result<Reach<'h>, AllocError>
         ensures heap { IfOk result (λ reach. reach.heap ≡ heap.now) }
@@ -98,8 +101,13 @@ impl<'h> Reach<'h> {
         ensures roots { IfOk result (λ reach. IsReachOf reach []) }
         ensures reserved { IfOk result (λ reach. reach.reserved ≡ length heap.now.cells) }
     {
+        let lasts = last_leads(alloc, heap)?;
         let labels = Labels::new(alloc, heap.cells() as usize)?;
-        Ok(Reach { heap, labels })
+        Ok(Reach {
+            heap,
+            lasts,
+            labels,
+        })
     }
 
     /// Adds what a root reaches: afterwards the reached cells are the least closed set that contains those
@@ -113,7 +121,7 @@ impl<'h> Reach<'h> {
         ensures roots { AddsRoots self.old self.new (element root.entry ∷ []) }
     {
         add_root(self.heap, &mut self.labels, &root);
-        spread(self.heap, &mut self.labels);
+        spread(self.heap, &self.lasts, &mut self.labels);
     }
 
     /// Whether a cell is reached.

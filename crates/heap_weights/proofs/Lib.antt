@@ -2,6 +2,7 @@ pub mod Going
 pub mod Holding
 pub mod Joining
 pub mod Labelling
+pub mod LastPlaces
 pub mod Reachers
 pub mod Reaching
 pub mod Resting

@@ -18,6 +18,7 @@
 mod counted;
 mod holders;
 mod labels;
+mod lasts;
 mod laws;
 mod shares;
 mod walking;
@@ -25,6 +26,7 @@ mod weights;
 
 pub use holders::Holder;
 pub use labels::Labels;
+pub use lasts::last_leads;
 pub use laws::{parts_hold, shares_add_up};
 pub use shares::{Shares, Weight};
 pub use walking::spread;

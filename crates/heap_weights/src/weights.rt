@@ -5,16 +5,19 @@ ghost use Rattle.heap_weights.specs.Holders.{holder_at};
 ghost use Rattle.heap_weights.specs.Shares.{AreShares};
 ghost use Rattle.heap_weights.specs.Inner.Labels.{AreHeldBy, IsRested};
 ghost use Rattle.heap_weights.specs.Inner.Tallies.{HasCounted};
+ghost use Rattle.heap_weights.specs.LastLeads.{TellsLasts};
 
 use crate::counted::Counted;
 use crate::labels::Labels;
+use crate::lasts::last_leads;
 use crate::shares::Shares;
 use crate::walking::walk;
 use cell_graphs::{CellGraph, Weighed};
 use std::alloc::{AllocError, Global};
 
 // Each part walks, one after the other.
-fn walk_all<G: CellGraph>(graph: &G, labels: &mut Labels, roots: &[u32])
+fn walk_all<G: CellGraph>(graph: &G, lasts: &[u32], labels: &mut Labels, roots: &[u32])
+    requires lasts { TellsLasts (G.graph graph.now) lasts.now }
     requires within { LeadsWithin (G.graph graph.now) }
     requires rested { IsRested (G.graph graph.now) 0 labels.old }
     requires none { AreHeldBy (G.graph graph.now) labels.old [] }
@@ -24,7 +27,7 @@ fn walk_all<G: CellGraph>(graph: &G, labels: &mut Labels, roots: &[u32])
     ensures held { AreHeldBy (G.graph graph.now) labels.new roots.now }
 {
     for part in 0..roots.len() {
-        walk(graph, labels, part as u32, roots[part]);
+        walk(graph, lasts, labels, part as u32, roots[part]);
     }
 }
 
@@ -48,15 +51,16 @@ fn tally<G: Weighed>(
 
 /// What parts hold of a heap's own cells. A part is a cell, its root; the parts are those with these roots, in order.
 ///
-/// Takes a label of four bytes for each cell, room for as many entries of four
+/// Takes a label of four bytes for each cell and four for where its last place leads, room for as many entries of four
 /// bytes, and 32 bytes for each part. A cell is visited at most twice, however many parts there are.
 pub fn weigh<G: Weighed>(alloc: Global, graph: &G, roots: &[u32]) -> Result<Shares, AllocError>
     requires few { length roots.now + 1 < 2 ^ 32 }
     requires cells { All (λ root. root < length (G.graph graph.now)) roots.now }
     ensures { IfOk result (AreShares (G.graph graph.now) (G.words graph.now) (G.binaries graph.now) (G.own graph.now) roots.now) }
 {
+    let lasts = last_leads(alloc, graph)?;
     let mut labels = Labels::new(alloc, graph.cells() as usize)?;
-    walk_all(graph, &mut labels, roots);
+    walk_all(graph, &lasts, &mut labels, roots);
     let counted = tally(alloc, graph, &labels, roots.len())?;
     Ok(counted.shares())
 }

@@ -19,6 +19,7 @@ invariant_of-result c =
         empty = made.empty;
         closed = λ m n is leads. absurd (false≢true (sym (made.unmarked m) ∙ is));
       },
+      c.in_ok-lasts.ensures,
     )
 
 pub returns-clause-roots : goal.returns-clause-roots
