@@ -27,6 +27,7 @@ impl Near {
     /// The number of the cell with an address, where no two cells have the same address, if it is easily told: if it
     /// is the one expected, or if so many references in a row led where they were expected that a search costs
     /// little beside them. `None` says nothing of the address.
+    #[inline(always)]
     pub fn find<T: Located>(&mut self, ranks: &Ranks, cells: &[T], address: u64) -> Option<u32>
         requires ranked { AreRanked (map T.address cells.now) ranks.now }
         requires distinct { AreAllFirst (map T.address cells.now) }

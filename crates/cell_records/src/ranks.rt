@@ -173,6 +173,7 @@ impl Ranks {
     }
 
     /// Appends a pair. If it doesn't fit into 8 bytes, all are stored as they are from then on.
+    #[inline(always)]
     pub fn push(&mut self, alloc: Global, address: u64, number: u32) -> Result<(), AllocError>
         ensures { OnOk result (self.new ≡ self.old ++ (address, number) ∷ []) }
     {

@@ -28,6 +28,7 @@ fn slot_for(lead: Lead, at: u32, len: u32) -> Slot
 }
 
 // Appends the slot of an element. Its place is one of 32 bits, since texts that are in memory have no more bytes.
+#[inline(always)]
 fn push_slot(
     slots: &mut Vec<Slot>,
     lead: Lead,
@@ -150,6 +151,7 @@ impl Elements {
 
     // Appends an element that leads there, and that so many bytes
     // spell at a place of a text before which so many stand.
+    #[inline(always)]
     pub(crate) fn push(
         &mut self,
         lead: Lead,

@@ -36,6 +36,7 @@ fn lead_of(e: &Elem<'_>) -> Lead
 }
 
 // An element of a text before which so many bytes stand.
+#[inline(always)]
 fn push_elem(elements: &mut Elements, from: u64, found: &PlacedElem<'_>) -> Result<(), AllocError>
     ensures { OnOk result (Appends elements.old elements.new
         (found_at from (placed found.now) ∷ [])) }
@@ -44,6 +45,7 @@ fn push_elem(elements: &mut Elements, from: u64, found: &PlacedElem<'_>) -> Resu
 }
 
 // A cons cell's head and tail.
+#[inline(always)]
 fn push_pair(
     elements: &mut Elements,
     from: u64,
@@ -121,6 +123,7 @@ fn push_joined(
 }
 
 // The elements that the text spells, until it turns out to spell no form.
+#[inline(always)]
 fn push_opened(
     elements: &mut Elements,
     text: &[u8],
@@ -156,6 +159,7 @@ fn push_opened(
 
 // Reads the text of a cell's form once, before which so many bytes stand, and pushes its
 // elements. Those of a text that turns out to spell no form are taken back.
+#[inline(always)]
 pub(crate) fn push_form(
     elements: &mut Elements,
     text: &[u8],

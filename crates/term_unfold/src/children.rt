@@ -123,6 +123,7 @@ pub(crate) fn child_at(heap: &Heap, ix: CellIx, kind: NodeKind, place: u32) -> O
 }
 
 /// The immediate that a child is, if it is one.
+#[inline(always)]
 pub(crate) fn immediate<'h>(heap: &'h Heap, child: Child<'_>) -> Option<Elem<'h>>
     requires { IsChild heap.now.cells child }
     ensures { option_map element result ≡ immediate_of (child_shown heap.now.cells child.entry) }
