@@ -7,7 +7,6 @@ ghost use Rattle.heap_cells.specs.Cells.{cell_of, line_cells};
 ghost use Rattle.heap_cells.specs.Inner.Gathering.{AreAll, Gathers, HoldsTexts, IsBodyAt, IsLineAt, IsNothing};
 ghost use Rattle.heap_cells.specs.Inner.Faults.{IsOfTheTexts};
 ghost use Rattle.heap_cells.specs.Inner.Texts.{text_of, seam_of, weight_in};
-ghost use Rattle.heap_graph.specs.Elements.{IsOfSlots};
 ghost use Rattle.heap_graph.specs.Held.{IsSmall};
 
 use crate::faults::HeapFault;

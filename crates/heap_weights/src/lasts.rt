@@ -1,5 +1,5 @@
 // Where the last places of cells lead.
-ghost use Rattle.std.specs.Prelude.{◌≡◌, ℕ, ◌<◌, ◌^◌, length, IfOk, IfSome};
+ghost use Rattle.std.specs.Prelude.{◌≡◌, ◌<◌, ◌^◌, length, IfOk, IfSome};
 ghost use Rattle.cell_graphs.specs.Graphs.{LeadsWithin};
 ghost use Rattle.heap_graph.specs.Leads.{cell_for, nowhere};
 ghost use Rattle.heap_weights.specs.LastLeads.{TellsLast, TellsLasts};

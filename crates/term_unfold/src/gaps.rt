@@ -1,5 +1,5 @@
 // The walk over a part of a heap that looks for a cell that only the whole heap has.
-ghost use Rattle.std.specs.Prelude.{◌≡◌, ℕ, Bool, ◌<◌, [], length, IfOk};
+ghost use Rattle.std.specs.Prelude.{◌≡◌, ◌<◌, [], length, IfOk};
 ghost use Rattle.term_forms.specs.Seen.{element};
 ghost use Rattle.heap_cells.specs.HeapMap.{HeapMap, form_at};
 ghost use Rattle.heap_cells.specs.Targets.{number};
@@ -17,14 +17,14 @@ use term_forms::shapes::{Elem, Form};
 
 /// The addresses of the cells of a heap that isn't loaded.
 pub trait Addresses {
-    /// The addresses of all cells, and those of heap binaries.
+    /// The addresses of all cells, and those that heap binaries may have.
     ghost known: { Self → Known };
 
     /// Whether a cell has the address.
     fn has(&self, addr: u64) -> bool
         ensures { result ≡ (known self.now).cells addr };
 
-    /// Whether a heap binary has the address.
+    /// Whether a heap binary may have the address. If all that have one are told, what others are costs time alone.
     fn has_binary(&self, addr: u64) -> bool
         ensures { result ≡ (known self.now).binaries addr };
 }

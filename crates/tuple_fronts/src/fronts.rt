@@ -8,9 +8,8 @@ ghost use Rattle.dump_sections.specs.Loading.{bodies_length};
 ghost use Rattle.heap_cells.specs.Loading.{heap_bodies};
 ghost use Rattle.heap_skeleton.specs.Skeletons.{skeleton_for};
 ghost use Rattle.term_forms.specs.Seen.{element};
-ghost use Rattle.tuple_fronts.specs.Fronts.{firsts_for, fronts_for};
+ghost use Rattle.tuple_fronts.specs.Fronts.{firsts_for};
 
-use crate::first_elements::MOST_ELEMENTS;
 use crate::front_lines::keep_fronts;
 use crate::kept::Kept;
 use dump_io::{Dumps, ReadFault};
@@ -42,8 +41,8 @@ impl Model for TupleFronts {
 impl TupleFronts {
     /// Reads the heap of a process and the literals: the first `proc_heap` section with the pid as its id, and the first
     /// `literals` section, each once and in pieces of at most 65,536 bytes, and keeps of each of these cells the first
-    /// `most` elements, if it is a tuple, or of its head and its tail, if it is a list. The cells are in ascending order, and the skeleton is that of this heap. The index was
-    /// built over the open file, which stays open.
+    /// `most` elements, if it is a tuple, or of its head and its tail, if it is a list. The cells are in ascending order,
+    /// and the skeleton is that of this heap. The index was built over the open file, which stays open.
     ///
     /// Returns `Read` only if the device's count of faults rose; `Memory` may come from any allocation, and comes if the
     /// texts of all elements have 4 GiB or more. Whatever it returns, at most as many bytes are read as the two bodies
@@ -73,30 +72,6 @@ impl TupleFronts {
         let literals = index.first_tag(b"literals");
         let kept = keep_fronts(alloc, dumps, index, heap, literals, skeleton, cells, most)?;
         Ok(TupleFronts { kept })
-    }
-
-    /// Keeps the first 8 elements of each of these cells, as [`TupleFronts::load_first`] does.
-    pub fn load<D: Dumps>(
-        alloc: Global,
-        dumps: &mut D,
-        index: &Index,
-        pid: &[u8],
-        skeleton: &Skeleton,
-        cells: &[u32],
-    ) -> Result<TupleFronts, ReadFault>
-        requires over { IsBuiltOver (D.state dumps.old).now index.now }
-        requires cells { All (λ n. n < length skeleton.now.addresses) cells.now }
-        requires ascending { IsStrictlyIncreasing cells.now }
-        requires skeleton { IfTold (D.state dumps.old).now
-            (λ dump. skeleton.now ≡ skeleton_for dump index.now pid.now) }
-        ensures reads { ReadsAtMost (D.state dumps.old) (D.state dumps.new)
-            (bodies_length (heap_bodies pid.now (sections_in index.now))) }
-        ensures fault { IfErr result (IsReadCauseOf (D.state dumps.old) (D.state dumps.new)) }
-        ensures count { IfOk result (λ f. length f ≡ length cells.now) }
-        ensures fronts { IfOk result (λ f. IfTold (D.state dumps.old).now
-            (λ dump. f ≡ fronts_for dump index.now pid.now cells.now)) }
-    {
-        TupleFronts::load_first(alloc, dumps, index, pid, skeleton, cells, MOST_ELEMENTS)
     }
 
     /// How many cells these are, those without elements among them.

@@ -6,7 +6,7 @@ ghost use Rattle.dump_sections.specs.Index.{sections_in, IsBuiltOver};
 ghost use Rattle.dump_sections.specs.Loading.{bodies_length};
 ghost use Rattle.heap_cells.specs.Loading.{heap_bodies};
 ghost use Rattle.heap_skeleton.specs.Skeletons.{skeleton_for};
-ghost use Rattle.tuple_fronts.specs.CellShapes.{cell_shapes, cell_shapes_with, inner_shapes};
+ghost use Rattle.tuple_fronts.specs.CellShapes.{cell_shapes_with, inner_shapes};
 
 use crate::cell_set::CellSet;
 use crate::cell_texts::{inner_texts, subject_texts};
@@ -87,27 +87,4 @@ pub fn cell_shapes_with<D: Dumps>(
     let inner = inner_texts(alloc, skeleton, &tuples, pids)?;
     let shapes = subject_texts(alloc, skeleton, &tuples, &inner, cells, pids)?;
     Ok(shapes)
-}
-
-/// Returns what [`cell_shapes_with`] does where no pid is shown.
-pub fn cell_shapes<D: Dumps>(
-    alloc: Global,
-    dumps: &mut D,
-    index: &Index,
-    pid: &[u8],
-    skeleton: &Skeleton,
-    cells: &CellSet,
-) -> Result<Texts, ReadFault>
-    requires over { IsBuiltOver (D.state dumps.old).now index.now }
-    requires cells { All (λ n. n < length skeleton.now.leads) cells.now }
-    requires skeleton { IfTold (D.state dumps.old).now
-        (λ dump. skeleton.now ≡ skeleton_for dump index.now pid.now) }
-    ensures reads { ReadsAtMost (D.state dumps.old) (D.state dumps.new)
-        (bodies_length (heap_bodies pid.now (sections_in index.now))) }
-    ensures fault { IfErr result (IsReadCauseOf (D.state dumps.old) (D.state dumps.new)) }
-    ensures count { IfOk result (λ shapes. length shapes ≡ length cells.now) }
-    ensures shapes { IfOk result (λ shapes. IfTold (D.state dumps.old).now
-        (λ dump. shapes ≡ cell_shapes dump index.now pid.now cells.now)) }
-{
-    cell_shapes_with(alloc, dumps, index, pid, skeleton, cells, false)
 }
