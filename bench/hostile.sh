@@ -143,7 +143,7 @@ shape flat 1000000
 shape hash 1000000
 shape keys 20000000 1 1
 shape slices 400000
-shape shuffled 4000000
+shape shuffled 1000000
 shape budgets 1000000 1500
 shape upwards 500000
 shape chain 1000000
