@@ -125,7 +125,7 @@ shape equals 2000000
 shape roots 1000000
 shape one_pid 500000
 shape star 200000
-shape nested 2000000
+shape nested 4000000
 shape counts 2000000
 shape quoted 200
 shape letters 10000000
@@ -143,7 +143,7 @@ shape flat 1000000
 shape hash 1000000
 shape keys 20000000 1 1
 shape slices 400000
-shape shuffled 1000000
+shape shuffled 4000000
 shape budgets 1000000 1500
 shape upwards 500000
 shape chain 1000000
