@@ -1,7 +1,8 @@
-//! Tests of calls of which no case of a whole run can tell: devices and sinks in memory, files and streams of the machine,
-//! external terms that are nested deeply, and the tree of an audit.
+//! Tests of calls: numbers, atoms and limits, devices and sinks in memory, files and streams of the machine, external terms
+//! that are nested deeply, and the tree of an audit.
 //!
-//! They are separate from what they test, which would otherwise be proved once more together with them.
+//! Most are calls of which no whole run tells; what one tells is mostly a case of case_runner. They are separate from what
+//! they test, which would otherwise be proved once more together with them.
 #![tactic(auto)]
 
 #[cfg(test)]

@@ -45,7 +45,8 @@ binary_count pid bytes = length (binaries (heap_map pid bytes).cells)
 -- how many bytes the bodies of the heap of a process and of the literals have, with two more for each of their heap lines
 abbrev pub heap_text_size : List ℕ → List ℕ → ℕ
 heap_text_size pid bytes =
-    bodies_length (heap_bodies pid (sections bytes)) + 2 * length (line_cells (payloads_of bytes) (heap_body pid bytes) ++ line_cells (payloads_of bytes) (literals_body bytes))
+    bodies_length (heap_bodies pid (sections bytes))
+    + 2 * length (line_cells (payloads_of bytes) (heap_body pid bytes) ++ line_cells (payloads_of bytes) (literals_body bytes))
 
 -- ---- a question on the heap of a process
 

@@ -27,7 +27,8 @@ subject_text (OfCell address) = hexadecimal address
 -- the first line of a level: its number, whose parts it has, and what any of these reaches
 abbrev pub level_line : ℕ → List ℕ → Weight → List ℕ
 level_line number subject reached =
-    line_of tab (codes "level" ∷ decimal number ∷ subject ∷ decimal (capped reached.words) ∷ decimal reached.cells ∷ decimal reached.binaries ∷ [])
+    line_of tab
+    (codes "level" ∷ decimal number ∷ subject ∷ decimal (capped reached.words) ∷ decimal reached.cells ∷ decimal reached.binaries ∷ [])
 
 -- the line of a kind of roots, which is a part of level 0: what it alone holds
 abbrev pub kind_line : KindRow → List ℕ

@@ -150,10 +150,10 @@ fn put_totals<K: Sink>(sink: &mut K, weights: &Weights) -> Result<(), Failed>
 
 /// Writes at most `most` parts that alone hold cells, in the order given. The line of a part is
 /// `part WORDS CELLS BINARIES KIND ADDR ELEMENTS PLACE LABEL` with tabs between its parts: the words and the number of
-/// the cells that it alone holds and how many of these refer to binaries, kind and address of its cell, how many of the weighed elements lead to it, and where the first
-/// of them stands: offset and label of the root, or the place among the elements of a cell and `-`. Behind them
-/// come lines with the same three numbers of several cells: `cell` of those that the cell reaches, if its elements
-/// are weighed, `shared`, `reached` and `own`; and then `elements E parts K`.
+/// the cells that it alone holds and how many of these refer to binaries, kind and address of its cell, how many of the
+/// weighed elements lead to it, and where the first of them stands: offset and label of the root, or the place among the
+/// elements of a cell and `-`. Behind them come lines with the same three numbers of several cells: `cell` of those that
+/// the cell reaches, if its elements are weighed, `shared`, `reached` and `own`; and then `elements E parts K`.
 ///
 /// Returns `Failed` only if the sink's count of faults rose; a proper prefix of the text was written then. It takes
 /// no memory.

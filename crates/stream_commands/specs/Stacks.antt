@@ -11,7 +11,8 @@ use Rattle.report_lines.specs.Lines.{line_of, tab, text_or_dash, word_space}
 abbrev pub group_line : List Row → TextGroup → List ℕ
 group_line rows group =
     let first = row_at rows group.first in
-    line_of tab (codes "stack" ∷ decimal group.count ∷ decimal group.weight ∷ pid_in first ∷ text_or_dash (name_in first) ∷ decimal first.at ∷ [])
+    line_of tab
+    (codes "stack" ∷ decimal group.count ∷ decimal group.weight ∷ pid_in first ∷ text_or_dash (name_in first) ∷ decimal first.at ∷ [])
 
 -- the lines of a group: that line, and those of the place at which its processes stand
 abbrev pub group_lines : List Row → List (List ℕ) → TextGroup → List ℕ

@@ -120,7 +120,8 @@ settled_in limit full bytes = record { audit = audit_in limit full bytes; signal
 
 -- the lines of an audit with this limit on message queues, in full or not, without the findings that are in flight
 abbrev pub audit_settled_row : ℕ → Bool → Meaning
-audit_settled_row limit full = record (of_bodies (audited_sections full) (settled_in limit full) settled_report) { found = Some settled_findings }
+audit_settled_row limit full =
+    record (of_bodies (audited_sections full) (settled_in limit full) settled_report) { found = Some settled_findings }
 
 -- an audit with this limit on message queues, in full or not, as one JSON text
 abbrev pub audit_json_row : ℕ → Bool → Meaning

@@ -90,7 +90,8 @@ pub record GivesPart (pid : List ℕ) (addr : Option ℕ) (terms : List Element)
   pub count : ℕ
   pub reads : ReadsAtMost before after count
   pub few : (bytes : List ℕ) → IsIndexed bytes limits index before.now
-      → count ≤ bodies_length (heap_bodies pid (sections_in index)) + (16 * (min limits.section (heap_text_size pid bytes) + 4) + 128 * binary_count pid bytes)
+      → count ≤ bodies_length (heap_bodies pid (sections_in index))
+      + (16 * (min limits.section (heap_text_size pid bytes) + 4) + 128 * binary_count pid bytes)
   pub part : MatchResult result (HoldsPart pid addr terms nodes limits index before.now)
       (StopsFor before after
       (λ why. (bytes : List ℕ) → IsIndexed bytes limits index before.now → lacks addr (heap_map pid bytes) ≡ Some why))
