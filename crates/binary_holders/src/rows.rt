@@ -2,7 +2,7 @@
 use text_groups::{Measured, MeasuredTwice};
 
 /// What a process holds of some binaries.
-#[derive(Clone, Copy, Debug, PartialEq, Eq, Drop)]
+#[derive(Clone, Copy, Drop)]
 pub struct Holding {
     /// The place of the process in the process table, from 0.
     pub process: usize,
@@ -38,7 +38,7 @@ impl MeasuredTwice for Holding {
 }
 
 /// A binary outside the heaps, and how many processes hold it.
-#[derive(Clone, Copy, Debug, PartialEq, Eq, Drop)]
+#[derive(Clone, Copy, Drop)]
 pub struct BinaryRow {
     /// The size that its section states, in bytes, or 0 if it states none.
     pub size: u64,
@@ -51,7 +51,7 @@ pub struct BinaryRow {
 }
 
 /// Lines of heaps that refer to binaries as a whole.
-#[derive(Clone, Copy, Debug, PartialEq, Eq, Drop)]
+#[derive(Clone, Copy, Drop)]
 pub struct WholeLines {
     /// How many lines refer to binaries as a whole; at most 2^64 - 1.
     pub count: u64,

@@ -2,7 +2,7 @@
 
 /// A finding of an audit. Processes are identified by their places in the process table, and entries
 /// by their numbers in the link list of `p`, both from 0. `at` and `other` are offsets in the file.
-#[derive(Clone, Copy, Debug, PartialEq, Eq)]
+#[derive(Clone, Copy)]
 pub enum Finding {
     /// `p` has a link to `q`, and `q` has none to `p`. `at` is the
     /// offset of the entry, and `other` that of the section of `q`.

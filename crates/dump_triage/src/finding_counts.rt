@@ -5,7 +5,7 @@ ghost use Rattle.dump_triage.specs.FindingCounts.{counts_of, is_link_finding, is
 use dump_audit::Finding;
 
 /// How many findings of each kind there are in an audit that isn't full.
-#[derive(Clone, Copy, Debug, PartialEq, Eq)]
+#[derive(Clone, Copy)]
 pub struct FindingCounts {
     /// Links to a process that has none back.
     pub links: u64,

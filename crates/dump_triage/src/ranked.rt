@@ -8,7 +8,7 @@ use std::alloc::AllocError;
 use text_groups::{Measured, sort_most_first};
 
 /// A process or a table, with one of its numbers.
-#[derive(Clone, Copy, Debug, PartialEq, Eq, Drop)]
+#[derive(Clone, Copy, Drop)]
 pub struct Ranked {
     /// The place of the process in the process table, or of the table among the rows of its kind, from 0.
     pub place: usize,

@@ -6,7 +6,7 @@ use crate::tally::Tally;
 use dump_io::{Failed, Piece, Sink, put_pieces};
 
 /// What a trial reports on a dump.
-#[derive(Clone, Copy, Debug, PartialEq, Eq)]
+#[derive(Clone, Copy)]
 pub struct Summary {
     /// The number of sections.
     pub sections: u64,

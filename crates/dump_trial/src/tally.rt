@@ -8,7 +8,7 @@ use root_views::{RootKind, What};
 use term_unfold::{Verdict, Walker};
 
 /// How many roots a body has, and how many of them are terms with a bad address within a budget.
-#[derive(Clone, Copy, Debug, PartialEq, Eq)]
+#[derive(Clone, Copy)]
 pub struct Tally {
     /// The number of roots.
     pub roots: u64,

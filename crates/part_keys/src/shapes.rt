@@ -1,5 +1,5 @@
 // The shapes of keys and of parts, for which the heap is read twice.
-ghost use Rattle.std.specs.Prelude.{◌≡◌, ◌*◌, ◌<◌, length, IfErr, IfOk};
+ghost use Rattle.std.specs.Prelude.{◌≡◌, ◌*◌, ◌<◌, length, map, All, IfErr, IfOk};
 ghost use Rattle.dump_io.specs.Dumps.{IfTold, ReadsAtMost};
 ghost use Rattle.dump_io.specs.Faults.{IsReadCauseOf};
 ghost use Rattle.dump_sections.specs.Index.{sections_in, IsBuiltOver};
@@ -9,6 +9,8 @@ ghost use Rattle.heap_skeleton.specs.Skeletons.{skeleton_for};
 ghost use Rattle.part_keys.specs.Keys.{key_shapes};
 ghost use Rattle.part_keys.specs.KeyPlaces.{AreKeysWithin};
 ghost use Rattle.part_keys.specs.PartShapes.{part_shapes, AreShapedWithin};
+ghost use Rattle.part_keys.specs.Inner.KeyTexts.{key_text};
+ghost use Rattle.part_keys.specs.Inner.PartTexts.{part_text};
 
 use crate::key_places::KeyPlace;
 use crate::needed::{Wanted, tuples_of, wanted_of};
@@ -18,7 +20,7 @@ use crate::shown_parts::part_texts;
 use dump_io::{Dumps, ReadFault};
 use dump_sections::Index;
 use heap_skeleton::Skeleton;
-use std::alloc::Global;
+use std::alloc::{AllocError, Global};
 use tuple_fronts::{MOST_ELEMENTS, Texts, Tuples, inner_texts};
 
 /// The shapes of keys and those of parts, each in the order in which they were asked for.
@@ -28,6 +30,27 @@ pub struct PartTexts {
     pub labels: Texts,
     /// The shapes of the parts.
     pub shapes: Texts,
+}
+
+// The shapes of keys and of parts, from the first elements of the cells in which they stand and those of the tuples that are
+// needed.
+fn texts_of(
+    alloc: Global,
+    skeleton: &Skeleton,
+    firsts: &Tuples,
+    tuples: &Tuples,
+    keys: &[KeyPlace],
+    parts: &[ShapedPart],
+) -> Result<PartTexts, AllocError>
+    requires tuples { All (λ n. n < length skeleton.now.leads) tuples.now.cells }
+    requires parts { AreShapedWithin (length skeleton.now.leads) parts.now }
+    ensures labels { IfOk result (λ texts. texts.labels ≡ map (key_text skeleton.now firsts.now tuples.now) keys.now) }
+    ensures shapes { IfOk result (λ texts. texts.shapes ≡ map (part_text skeleton.now firsts.now tuples.now) parts.now) }
+{
+    let inner = inner_texts(alloc, skeleton, tuples, false)?;
+    let labels = key_texts(alloc, skeleton, firsts, tuples, &inner, keys)?;
+    let shapes = part_texts(alloc, skeleton, firsts, tuples, &inner, parts)?;
+    Ok(PartTexts { labels, shapes })
 }
 
 /// Reads the heap of a process and the literals twice, each time in pieces of at most 65,536 bytes, and returns the
@@ -70,10 +93,8 @@ pub fn read_shapes<D: Dumps>(
     let firsts = Tuples::load(alloc, dumps, index, pid, skeleton, cells, most)?;
     let others = tuples_of(alloc, skeleton, keys, parts)?;
     let tuples = Tuples::load(alloc, dumps, index, pid, skeleton, others, MOST_ELEMENTS)?;
-    let inner = inner_texts(alloc, skeleton, &tuples, false)?;
-    let labels = key_texts(alloc, skeleton, &firsts, &tuples, &inner, keys)?;
-    let shapes = part_texts(alloc, skeleton, &firsts, &tuples, &inner, parts)?;
-    Ok(PartTexts { labels, shapes })
+    let texts = texts_of(alloc, skeleton, &firsts, &tuples, keys, parts)?;
+    Ok(texts)
 }
 
 /// Returns the shapes of keys, as [`read_shapes`] does. What is read and the faults are those of it, where no parts are

@@ -10,11 +10,11 @@ load-requires-clause-cells g c = c.in_ok-cells.ensures.within (length c.args.ske
 
 pub returns-clause-count : goal.returns-clause-count
 returns-clause-count g c =
-    ap length c.in_ok-labels.ensures ∙ length-map c.args.keys.now (key_text c.args.skeleton.now c.in_ok-firsts.firsts c.in_ok-tuples.tuples)
+    ap length c.in_ok-texts.ensures.labels ∙ length-map c.args.keys.now (key_text c.args.skeleton.now c.in_ok-firsts.firsts c.in_ok-tuples.tuples)
 
 pub returns-clause-parts_count : goal.returns-clause-parts_count
 returns-clause-parts_count g c =
-    ap length c.in_ok-shapes.ensures ∙ length-map c.args.parts.now (part_text c.args.skeleton.now c.in_ok-firsts.firsts c.in_ok-tuples.tuples)
+    ap length c.in_ok-texts.ensures.shapes ∙ length-map c.args.parts.now (part_text c.args.skeleton.now c.in_ok-firsts.firsts c.in_ok-tuples.tuples)
 
 pub returns-clause-labels : goal.returns-clause-labels
 returns-clause-labels g c = λ dump is.
@@ -33,7 +33,7 @@ returns-clause-labels g c = λ dump is.
       other_cells = c.in_ok-tuples.ensures.cells;
       fronts = c.in_ok-tuples.ensures.fronts dump (c.in_ok-firsts.ensures.reads.same_now ∙ is);
     })
-    c.in_ok-labels.labels c.in_ok-labels.ensures
+    c.in_ok-texts.texts.labels c.in_ok-texts.ensures.labels
 
 pub returns-clause-shapes : goal.returns-clause-shapes
 returns-clause-shapes g c = λ dump is.
@@ -52,4 +52,4 @@ returns-clause-shapes g c = λ dump is.
       other_cells = c.in_ok-tuples.ensures.cells;
       fronts = c.in_ok-tuples.ensures.fronts dump (c.in_ok-firsts.ensures.reads.same_now ∙ is);
     })
-    c.in_ok-shapes.shapes c.in_ok-shapes.ensures
+    c.in_ok-texts.texts.shapes c.in_ok-texts.ensures.shapes
